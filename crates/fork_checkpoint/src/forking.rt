@@ -1,9 +1,8 @@
 //! A new space with the pages of another one.
 
 ghost use Rattle.std.specs.Prelude.{◌≡◌, ◌<◌, ◌≤◌, true, false, OnOk};
-ghost use Rattle.std.specs.FinMap as map;
 ghost use Rattle.sizes.specs.declared.TheConstants.{LAST_SPACE};
-ghost use Rattle.overlay_memory.specs.View.{state_of, translations_of};
+ghost use Rattle.overlay_memory.specs.View.{NoneAwaits, state_of, translations_of};
 ghost use Rattle.space_maps.specs.Spaces.{holds_space, space_in};
 ghost use Rattle.translation_cache.specs.Translations.{flushed};
 ghost use Rattle.fork_checkpoint.specs.Copied.{Copies};
@@ -18,7 +17,7 @@ use overlay_memory::{OverlayMemory, SpaceError};
 /// space is gone. Costs a step for each page, and a copy of each own line.
 pub fn fork_space(mem: &mut OverlayMemory, from: u16, to: u16) -> Result<(), SpaceError>
     requires there { holds_space (state_of mem.old) from ≡ true }
-    requires none_awaits { (space_in (state_of mem.old) from).awaiting ≡ map.empty }
+    requires none_awaits { NoneAwaits (state_of mem.old) from }
     requires unmarked { (space_in (state_of mem.old) from).speculating ≡ false }
     requires some { 0 < to }
     requires last { to ≤ LAST_SPACE }

@@ -1,8 +1,7 @@
 //! The pages of a space in the place of those that another one had.
 
 ghost use Rattle.std.specs.Prelude.{◌≡◌, ◌≢◌, OnErr, OnOk, true, false};
-ghost use Rattle.std.specs.FinMap as map;
-ghost use Rattle.overlay_memory.specs.View.{state_of, translations_of};
+ghost use Rattle.overlay_memory.specs.View.{NoneAwaits, state_of, translations_of};
 ghost use Rattle.space_maps.specs.Spaces.{holds_space, space_in};
 ghost use Rattle.translation_cache.specs.Translations.{flushed};
 ghost use Rattle.fork_checkpoint.specs.Copied.{Copies};
@@ -19,10 +18,10 @@ use overlay_memory::{OverlayMemory, SpaceError};
 pub fn restore_space(mem: &mut OverlayMemory, saved: u16, into: u16) -> Result<(), SpaceError>
     requires differ { saved ≢ into }
     requires saved_there { holds_space (state_of mem.old) saved ≡ true }
-    requires none_of_saved_awaits { (space_in (state_of mem.old) saved).awaiting ≡ map.empty }
+    requires none_of_saved_awaits { NoneAwaits (state_of mem.old) saved }
     requires saved_unmarked { (space_in (state_of mem.old) saved).speculating ≡ false }
     requires there { holds_space (state_of mem.old) into ≡ true }
-    requires none_awaits { (space_in (state_of mem.old) into).awaiting ≡ map.empty }
+    requires none_awaits { NoneAwaits (state_of mem.old) into }
     requires unmarked { (space_in (state_of mem.old) into).speculating ≡ false }
     ensures copies { Copies mem.old mem.new saved into result }
     ensures translations { OnOk result

@@ -3,7 +3,7 @@
 ghost use Rattle.std.specs.Prelude.{◌≡◌, ◌≢◌, OnErr, OnOk, true};
 ghost use Rattle.std.specs.FinMap as map;
 ghost use Rattle.ledger.specs.Events.{Copy};
-ghost use Rattle.overlay_memory.specs.View.{state_of, translations_of};
+ghost use Rattle.overlay_memory.specs.View.{NoneAwaits, state_of, translations_of};
 ghost use Rattle.overlay_memory.specs.Room.{FitsAfter};
 ghost use Rattle.space_maps.specs.Spaces.{bare_space, holds_space, space_in};
 ghost use Rattle.translation_cache.specs.Translations.{flushed};
@@ -51,7 +51,7 @@ fn share_table(mem: &mut OverlayMemory, from: u16, to: u16, table: PageTable)
 pub(crate) fn fill_space(mem: &mut OverlayMemory, from: u16, to: u16) -> Result<(), AllocError>
     requires differ { from ≢ to }
     requires there { holds_space (state_of mem.old) from ≡ true }
-    requires none_awaits { (space_in (state_of mem.old) from).awaiting ≡ map.empty }
+    requires none_awaits { NoneAwaits (state_of mem.old) from }
     requires space { holds_space (state_of mem.old) to ≡ true }
     requires bare { space_in (state_of mem.old) to ≡ bare_space }
     requires low { ArePagesLow (state_of mem.old) from }
@@ -77,9 +77,9 @@ pub(crate) fn fill_space(mem: &mut OverlayMemory, from: u16, to: u16) -> Result<
 pub(crate) fn refill_space(mem: &mut OverlayMemory, from: u16, to: u16) -> Result<(), AllocError>
     requires differ { from ≢ to }
     requires from_there { holds_space (state_of mem.old) from ≡ true }
-    requires none_of_from_awaits { (space_in (state_of mem.old) from).awaiting ≡ map.empty }
+    requires none_of_from_awaits { NoneAwaits (state_of mem.old) from }
     requires there { holds_space (state_of mem.old) to ≡ true }
-    requires none_awaits { (space_in (state_of mem.old) to).awaiting ≡ map.empty }
+    requires none_awaits { NoneAwaits (state_of mem.old) to }
     requires low { ArePagesLow (state_of mem.old) from }
     requires fits { FitsAfter (Copy from to) (state_of mem.old) }
     ensures refills { RefillsSpace (state_of mem.old) (state_of mem.new) from to result }

@@ -1,14 +1,13 @@
 //! The units after a copy, before anything is changed.
 
 ghost use Rattle.std.specs.Prelude.{◌≡◌, ◌≢◌, ◌+◌, ◌*◌, ◌<◌, ◌≤◌, true, IsSome};
-ghost use Rattle.std.specs.FinMap as map;
 ghost use Rattle.sizes.specs.declared.TheConstants.{FRAME_UNITS, PAGE_END};
 ghost use Rattle.ledger.specs.Events.{Copy, Drop};
 ghost use Rattle.overlay_pages.specs.Changes.{limit_of};
-ghost use Rattle.overlay_memory.specs.View.{state_of};
+ghost use Rattle.overlay_memory.specs.View.{NoneAwaits, state_of};
 ghost use Rattle.overlay_memory.specs.ApartLaws.{ArePagesApart};
 ghost use Rattle.overlay_memory.specs.Room.{class_at, units_after};
-ghost use Rattle.space_maps.specs.Spaces.{holds_space, page_in, space_in};
+ghost use Rattle.space_maps.specs.Spaces.{holds_space, page_in};
 ghost use Rattle.fork_checkpoint.specs.Copied.{ArePagesLow, page_units, with_copies};
 
 use overlay_memory::{OverlayMemory, class_of};
@@ -66,7 +65,7 @@ fn without_page(mem: &OverlayMemory, space: u16, page: u64, units: u32) -> u32
 // own lines, which have none, and for each other page.
 fn units_without(mem: &OverlayMemory, space: u16) -> u32
     requires there { holds_space (state_of mem.now) space ≡ true }
-    requires none_awaits { (space_in (state_of mem.now) space).awaiting ≡ map.empty }
+    requires none_awaits { NoneAwaits (state_of mem.now) space }
     ensures sum { result ≡ units_after (Drop space) (state_of mem.now) }
     ensures few { result ≤ limit_of (state_of mem.now) }
 {
@@ -91,7 +90,7 @@ pub(crate) fn units_restored(mem: &OverlayMemory, saved: u16, into: u16) -> u32
     requires differ { saved ≢ into }
     requires saved_there { holds_space (state_of mem.now) saved ≡ true }
     requires there { holds_space (state_of mem.now) into ≡ true }
-    requires none_awaits { (space_in (state_of mem.now) into).awaiting ≡ map.empty }
+    requires none_awaits { NoneAwaits (state_of mem.now) into }
     ensures sum { result ≡ units_after (Copy saved into) (state_of mem.now) }
     ensures low { ArePagesLow (state_of mem.now) saved }
 {

@@ -2,10 +2,12 @@ use Rattle.std.proofs.Common.{◌≡◌, ℕ, ◌*◌, ◌<◌, ◌≤◌, Bool,
 use Rattle.std.specs.Prelude.{Result, Ok, Err}
 use Rattle.std.specs.Option.{is_some, option_map_or, unwrap_or}
 use Rattle.std.proofs.lemmas.Bool.Decides.{nat_tests}
+use Rattle.ledger.specs.Alike.{AreAlike}
+use Rattle.ledger.specs.AlikeLaws.{alike_itself}
+use Rattle.ledger.specs.AlikeUnits.{units_alike}
 use Rattle.ledger.specs.Ledger.{Ledger}
 use Rattle.ledger.specs.Units.{units}
 use Rattle.ovl_io.specs.Memory.{Access, Memory, denied_at}
-use Rattle.ovl_io.specs.declared.process_state.FaultKind.{FaultKind}
 use Rattle.ovl_io.specs.declared.process_state.ProcessState.{ProcessState}
 use Rattle.ovl_io.specs.declared.process_state.ProcessState.TheVariants as state
 use Rattle.rv_execute.specs.Calls.{Call, Fetch, Load, Store, Performs, fetch_at, full_of, load_at, store_at}
@@ -27,14 +29,14 @@ use Rattle.machine_core.specs.Machine.{kept_in, kept_whole, none_saved}
 use Rattle.translation_cache.specs.Bare.{BareTranslations}
 use Rattle.machine_core.specs.Tried.{each_counted}
 use Rattle.machine_core.specs.Access.{IsSameLoan, IsStoredBy, IsUnchanged, Leaves, lists_after, lists_lent, spaces_lent}
-use Rattle.machine_core.specs.Turns.{Guest, exceeds, executed, execution_of, guest_executed, guest_refused, is_full, ledger_executed, ledger_stored, outcome_of, state_executed, state_left, store_made, store_of, translations_executed, units_needed}
+use Rattle.machine_core.specs.Turns.{AreLikeGuests, Guest, exceeds, executed, execution_of, guest_executed, guest_refused, is_full, ledger_executed, ledger_stored, outcome_of, state_executed, state_left, store_made, store_of, translations_executed, units_needed}
 use Rattle.machine_core.specs.Kept.{IsBeside, guest_seen}
 
 -- What the calls of one instruction make of the memory of all spaces.
 
 -- its store was done
 pub record HasStored (p : ℕ) (store : ℕ × ℕ) (old new : State) : Type 0 where
-  pub ledger : books new ≡ stored_books old p store.0 store.1
+  pub ledger : AreAlike (books new) (stored_books old p store.0 store.1)
   pub kept : (saved : Option SavedRegs) → kept_in new p saved ≡ kept_in old p saved
   pub frames : new.frames ≡ old.frames
   pub beside : IsBeside p old new
@@ -76,7 +78,7 @@ stored_came : (p : ℕ) (old new : State) (address : ℕ) (bytes : List ℕ) (an
 stored_came p old new address bytes (Ok done) full (allowed, stored, fits) is =
     let frames : new.frames ≡ old.frames = stored.frames in
     let limit = ap (λ n. 16 * n) frames in
-    let needed = ap units stored.ledger in
+    let needed = units_alike (books new) (stored_books old p address (length bytes)) stored.ledger in
     let test = not_over (limit_of old) (units (stored_books old p address (length bytes))) (omega (arith, fits, limit, needed)) in
     subst (λ (o : Option ℕ). Came p old new (option_map_or (λ at. None) o (Some (address, length bytes))) full) (sym allowed)
     (subst (λ b. CameBy p old new (address, length bytes) b full) (sym test)
@@ -127,7 +129,7 @@ performed (Store address bytes ∷ calls) old new full (answer, stored, is, last
 
 pub record IsExecuted (p : ℕ) (old new : State) (t u : BareTranslations) (before after : declared.Process) (o : Outcome) : Type 0 where
   pub outcome_is : o ≡ outcome_of p (guest_seen p old t before)
-  pub after_is : guest_seen p new u after ≡ executed p (guest_seen p old t before)
+  pub after_is : AreLikeGuests (guest_seen p new u after) (executed p (guest_seen p old t before))
   pub beside : IsBeside p old new
 
 -- what an outcome that isn't for want of units says
@@ -167,11 +169,18 @@ full_by e old old_memory regs memory (outcome.Full n l) needed limit is (steps, 
     }
 
 made : (r s : Registers) (t u : ProcessState) (m n : Memory) (c d : Option Whole) (k l : Ledger) (f g : ℕ) (x y : BareTranslations)
-    → r ≡ s → t ≡ u → m ≡ n → c ≡ d → k ≡ l → f ≡ g → x ≡ y
-    → ◌≡◌ {A = Guest} (record { process = record { registers = r; state = t; memory = m; kept = c }; ledger = k; frames = f; translations = x })
+    → r ≡ s → t ≡ u → m ≡ n → c ≡ d → AreAlike k l → f ≡ g → x ≡ y
+    → AreLikeGuests (record { process = record { registers = r; state = t; memory = m; kept = c }; ledger = k; frames = f; translations = x })
     (record { process = record { registers = s; state = u; memory = n; kept = d }; ledger = l; frames = g; translations = y })
-made r s t u m n c d k l f g x y rs tu mn cd kl fg xy =
-    λ i. record { process = record { registers = rs i; state = tu i; memory = mn i; kept = cd i }; ledger = kl i; frames = fg i; translations = xy i }
+made r s t u m n c d k l f g x y rs tu mn cd kl fg xy = record {
+  process = λ i. record { registers = rs i; state = tu i; memory = mn i; kept = cd i };
+  ledger = kl;
+  frames = fg;
+  translations = xy;
+}
+
+alike_by : (k l : Ledger) → k ≡ l → AreAlike k l
+alike_by k l same = subst (AreAlike k) same (alike_itself k)
 
 -- a whole is kept where the mark is
 marked : (mark : Bool) (whole : Whole) → is_some (cond mark (Some whole) None) ≡ mark
@@ -202,7 +211,8 @@ module _ (p : ℕ) (old new : State) (t u : BareTranslations) (process : declare
       ap (λ (s : Option (ℕ × ℕ)). ledger_stored p (is_speculating guest.process) s (books old)) is
       ∙ ap (λ b. ledger_stored p b store (books old)) speculates
 
-  enough : (store : Option (ℕ × ℕ)) → store_of guest.process ≡ store → is_full p guest ≡ false → full_in o ≡ None → books new ≡ ledger_stored p (space_in old p).speculating store (books old)
+  enough : (store : Option (ℕ × ℕ)) → store_of guest.process ≡ store → is_full p guest ≡ false → full_in o ≡ None
+      → AreAlike (books new) (ledger_stored p (space_in old p).speculating store (books old))
       → kept_in new p process.saved ≡ kept_in old p process.saved → new.frames ≡ old.frames → IsBeside p old new
       → IsExecuted p old new t u process left o
   enough store is not_full none ledger kept frames beside =
@@ -210,9 +220,9 @@ module _ (p : ℕ) (old new : State) (t u : BareTranslations) (process : declare
       let d = is_done e process.regs (memory_of old p) regs (memory_of new p) o none done in
       record {
         outcome_is = d.outcome_is ∙ sym (ap (λ b. cond b (outcome.Full (units_needed p guest) (limit_of old)) (outcome_by e.upshot)) not_full);
-        after_is = made regs e.registers (state_left o process.state) (state_executed e.upshot) (memory_of new p) e.memory (kept_in new p process.saved) (kept_in old p process.saved) (books new) (ledger_executed p guest) _ _ u _
-            d.registers (ap (state_left o) runs ∙ d.state_is) d.memory_is kept (ledger ∙ sym (ledger_is store is)) frames counts
-            ∙ sym (ap (λ b. cond b (guest_refused p guest) (guest_executed p guest)) not_full);
+        after_is = subst (λ b. AreLikeGuests (guest_seen p new u left) (cond b (guest_refused p guest) (guest_executed p guest))) (sym not_full)
+            (made regs e.registers (state_left o process.state) (state_executed e.upshot) (memory_of new p) e.memory (kept_in new p process.saved) (kept_in old p process.saved) (books new) (ledger_executed p guest) _ _ u _
+            d.registers (ap (state_left o) runs ∙ d.state_is) d.memory_is kept (subst (AreAlike (books new)) (sym (ledger_is store is)) ledger) frames counts);
         beside = beside;
       }
 
@@ -221,7 +231,7 @@ module _ (p : ℕ) (old new : State) (t u : BareTranslations) (process : declare
 
   by_store : (store : Option (ℕ × ℕ)) → store_of guest.process ≡ store → Came p old new store (full_in o) → IsExecuted p old new t u process left o
   by_store None is (none, same) =
-      enough None is (full_is None is) none (ap books same) (ap (λ (s : State). kept_in s p process.saved) same) (ap (λ (s : State). s.frames) same) (same_beside same)
+      enough None is (full_is None is) none (alike_by (books new) (books old) (ap books same)) (ap (λ (s : State). kept_in s p process.saved) same) (ap (λ (s : State). s.frames) same) (same_beside same)
   by_store (Some store) is came = by_test (nat_lt (limit_of old) (units (stored_books old p store.0 store.1))) refl came
     where
       by_test : (b : Bool) → nat_lt (limit_of old) (units (stored_books old p store.0 store.1)) ≡ b → CameBy p old new store b (full_in o) → IsExecuted p old new t u process left o
@@ -231,9 +241,9 @@ module _ (p : ℕ) (old new : State) (t u : BareTranslations) (process : declare
           record {
             outcome_is = f.outcome_is ∙ ap (λ l. outcome.Full (units l) (limit_of old)) (sym (ledger_is (Some store) is))
                 ∙ sym (ap (λ b. cond b (outcome.Full (units_needed p guest) (limit_of old)) (outcome_by (execution_of guest.process).upshot)) test);
-            after_is = made regs process.regs (state_left o process.state) process.state (memory_of new p) (memory_of old p) (kept_in new p process.saved) (kept_in old p process.saved) (books new) (books old) _ _ u _
-                f.registers (ap (state_left o) runs ∙ f.state_is ∙ sym runs) f.memory_is (ap (λ (s : State). kept_in s p process.saved) same) (ap books same) (ap (λ (s : State). s.frames) same) counts
-                ∙ sym (ap (λ b. cond b (guest_refused p guest) (guest_executed p guest)) test);
+            after_is = subst (λ b. AreLikeGuests (guest_seen p new u left) (cond b (guest_refused p guest) (guest_executed p guest))) (sym test)
+                (made regs process.regs (state_left o process.state) process.state (memory_of new p) (memory_of old p) (kept_in new p process.saved) (kept_in old p process.saved) (books new) (books old) _ _ u _
+                f.registers (ap (state_left o) runs ∙ f.state_is ∙ sym runs) f.memory_is (ap (λ (s : State). kept_in s p process.saved) same) (alike_by (books new) (books old) (ap books same)) (ap (λ (s : State). s.frames) same) counts);
             beside = same_beside same;
           }
       by_test false under (none, has) = enough (Some store) is (full_is (Some store) is ∙ under) none has.ledger (has.kept process.saved) has.frames has.beside
@@ -241,9 +251,3 @@ module _ (p : ℕ) (old new : State) (t u : BareTranslations) (process : declare
   pub executes : Came p old new (store_made (memory_of old p) (execution process.regs (memory_of old p)).calls) (full_in o) → IsExecuted p old new t u process left o
   unfolding store_of
   executes came = by_store _ refl came
-
-pub state_kept : (o : Outcome) (s : ProcessState) → ((kind : FaultKind) (address : ℕ) → o ≡ outcome.Fault kind address → ⊥) → state_left o s ≡ s
-state_kept outcome.Stepped s other = refl
-state_kept outcome.Asked s other = refl
-state_kept (outcome.Fault kind address) s other = absurd (other kind address refl)
-state_kept (outcome.Full units limit) s other = refl

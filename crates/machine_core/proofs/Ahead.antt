@@ -1,4 +1,4 @@
-use Rattle.std.proofs.Common.{◌≡◌, ℕ, zero, suc, ◌+◌, ◌-◌, ◌<◌, Bool, true, false, cond, List, [], ◌∷◌, Option, Some, None, is_some, sym, ap, ◌∙◌, refl, arith}
+use Rattle.std.proofs.Common.{◌≡◌, ℕ, zero, suc, ◌+◌, ◌-◌, ◌<◌, Bool, true, false, cond, List, [], ◌∷◌, Option, Some, None, is_some, sym, ap, subst, ◌∙◌, refl, arith}
 use Rattle.std.specs.FinMap.{get}
 use Rattle.ovl_io.specs.Memory.{Access, Memory, denied_at}
 use Rattle.ovl_io.specs.PageBytes.{page_allows}
@@ -10,9 +10,10 @@ use Rattle.translation_cache.specs.Finding.{found_hits}
 use Rattle.translation_cache.specs.Translations.{entered, found, looked, looked_by, with_hits, with_misses}
 use Rattle.breakpoints.specs.Breakpoints.{Addresses}
 use Rattle.machine_core.specs.Ahead.{ahead, guest_ahead}
-use Rattle.machine_core.specs.Executions.{after_steps, executions}
+use Rattle.machine_core.specs.Executions.{AreLikeExecutions, after_steps, executions}
 use Rattle.machine_core.specs.Turns.{Guest}
 use Rattle.machine_core.specs.Tried.{each_counted}
+use Rattle.machine_core.proofs.Stepping.{from_first}
 
 -- A hit more before accesses is one behind them.
 
@@ -105,11 +106,8 @@ ahead_paid (suc (suc n)) t some =
 
 -- executions begin with nothing that is owed
 pub begun : (stops : Addresses) (p most k : ℕ) (guest : Guest) → k ≡ 0
-    → executions stops p most guest ≡ after_steps 0 (executions stops p (most - 0) (guest_ahead k guest))
+    → AreLikeExecutions (after_steps 0 (executions stops p (most - 0) (guest_ahead k guest))) (executions stops p most guest)
 unfolding ahead
 begun stops p most k guest none =
-    let all : most ≡ most - 0 = omega arith in
-    let e = executions stops p (most - 0) guest in
-    let count : e.steps ≡ 0 + e.steps = omega arith in
-    ap (λ n. executions stops p n guest) all ∙ (λ i. record { steps = count i; before = e.before; outcome = e.outcome; after = e.after })
-    ∙ ap (λ n. after_steps 0 (executions stops p (most - 0) (guest_ahead n guest))) (sym none)
+    subst (λ n. AreLikeExecutions (after_steps 0 (executions stops p (most - 0) (guest_ahead n guest))) (executions stops p most guest)) (sym none)
+    (from_first stops p most guest)

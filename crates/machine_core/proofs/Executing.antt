@@ -20,21 +20,6 @@ use Rattle.machine_core.specs.declared.hand.Course.TheVariants.{On}
 use Rattle.machine_core.specs.declared.view.View.{View}
 use Rattle.machine_core.proofs.Leaving.{keeps}
 
--- An instruction that has a word has its registers below 32.
-low_by : (f : Format) (i : Instr) → HasRegisters f i → (i.rd < 32) × (i.rs1 < 32) × (i.rs2 < 32)
-low_by R i h = h
-low_by I i h = (h.0, h.1, omega (arith, h.2))
-low_by S i h = (omega (arith, h.0), h.1, h.2)
-low_by B i h = (omega (arith, h.0), h.1, h.2)
-low_by U i h = (h.0, omega (arith, h.1), omega (arith, h.2))
-low_by J i h = (h.0, omega (arith, h.1), omega (arith, h.2))
-low_by H6 i h = (h.0, h.1, omega (arith, h.2))
-low_by H5 i h = (h.0, h.1, omega (arith, h.2))
-low_by N i h = (omega (arith, h.0), omega (arith, h.1), omega (arith, h.2))
-
-pub low_registers : (i : Instr) → IsEncodable i → (i.rd < 32) × (i.rs1 < 32) × (i.rs2 < 32)
-low_registers i is = low_by _ i is.registers
-
 -- An instruction whose word was fetched: the execution is what its action does, behind the fetch.
 
 fetched_by : (regs : Registers) (memory : Memory) → regs.pc % 4 ≡ 0

@@ -12,6 +12,7 @@ pub mod Stepping
 pub mod Runs
 pub mod Machines
 pub mod Plays
+pub mod Eventing
 pub mod Adding
 pub mod Marks
 pub mod Images

@@ -16,8 +16,8 @@ use Rattle.machine_core.specs.Process.{Process, runs}
 use Rattle.machine_core.specs.declared.process.Process as declared
 use Rattle.machine_core.specs.declared.process.SavedRegs.{SavedRegs}
 use Rattle.machine_core.specs.Machine.{AreLike, Machine, Processes, Wholes, has_saved, is_marked, is_running, kept_whole, keys_from, none_saved, processes_of, registers_at, registers_of, registers_shown, running_numbers, saved_of, shown_at, shown_process, spaces_of, whole_in, wholes}
-use Rattle.machine_core.specs.Turns.{Guest, guest_at, guest_of, with_guest}
-use Rattle.machine_core.specs.Laws.{processes_at, runs_shown, whole_by}
+use Rattle.machine_core.specs.Turns.{AreLikeGuests, Guest, guest_at, guest_of, with_guest}
+use Rattle.machine_core.specs.Laws.{after_both, leads, processes_at, runs_shown, whole_by}
 use Rattle.machine_core.specs.Kept.{IsBeside, IsChanged, IsRunningList, guest_in, is_in, machine_of}
 use Rattle.machine_core.specs.NumberLaws.{Rises, entries_rise, in_passing, none_below, numbers_are, numbers_rise, rises_passing}
 use Rattle.machine_core.specs.NumberLaws as numbers
@@ -75,8 +75,8 @@ pub same_beside : (p : ℕ) (old new : State) → new ≡ old → IsBeside p old
 same_beside p old new same = subst (λ s. IsBeside p s new) same (record { spaces = λ q other. refl; there = λ q. refl; awaiting = refl; mark = refl })
 
 -- A process was changed with its space, but for what is saved of it.
-module _ (f : Guest → Guest) (p : ℕ) (old : Machine) (memory : TranslatedView) (process next : declared.Process) (there : get old.processes p ≡ Some process)
-    (done : guest_in p memory next ≡ f (guest_in p old.memory process))
+module _ (f : Guest → Guest) (like : (g h : Guest) → AreLikeGuests g h → AreLikeGuests (f g) (f h)) (p : ℕ) (old : Machine) (memory : TranslatedView) (process next : declared.Process) (there : get old.processes p ≡ Some process)
+    (done : AreLikeGuests (guest_in p memory next) (f (guest_in p old.memory process)))
     (saved : next.saved ≡ process.saved) (beside : IsBeside p (spaces_of old) (state_of memory)) where
   abbrev new : Machine
   new = machine_of memory (insert old.processes p next)
@@ -97,16 +97,20 @@ module _ (f : Guest → Guest) (p : ℕ) (old : Machine) (memory : TranslatedVie
   processes_put : processes_of new ≡ insert (processes_of old) p guest.process
   processes_put = alike _ _ (λ q. processes_at new q ∙ by_key q p
       (λ same. ap (λ n. option_map (whole_in (spaces_of new) n) (get new.processes n)) same ∙ ap (option_map (whole_in (spaces_of new) p)) here
-      ∙ ap (λ (g : Guest). Some g.process) done ∙ sym (get_same (processes_of old) p q guest.process same))
+      ∙ ap Some done.process ∙ sym (get_same (processes_of old) p q guest.process same))
       (λ other. ap (option_map (whole_in (spaces_of new) q)) (elsewhere q other) ∙ others_seen q other (get old.processes q)
       ∙ sym (processes_at old q) ∙ sym (get_other (processes_of old) p q guest.process other)))
 
-  wholes_put : wholes new ≡ with_guest (wholes old) p guest
-  wholes_put = λ i. record { processes = processes_put i; ledger = (done i).ledger; frames = (done i).frames; translations = (done i).translations }
+  wholes_put : AreLike (wholes new) (with_guest (wholes old) p guest)
+  wholes_put = record { processes = processes_put; ledger = done.ledger; frames = done.frames; translations = done.translations }
 
-  pub changed : IsChanged p old new (option_map_or (λ g. with_guest (wholes old) p (f g)) (guest_at (wholes old) p) (wholes old))
+  abbrev after : Wholes → Wholes
+  after state = option_map_or (λ g. with_guest state p (f g)) (guest_at state p) state
+
+  pub changed : IsChanged p old new after
   changed = record {
-    after = wholes_put ∙ sym (ap (λ (o : Option Guest). option_map_or (λ g. with_guest (wholes old) p (f g)) o (wholes old)) (guest_is old p process there));
+    stands = leads after old new (λ a b both. after_both p a b both f like)
+        (subst (AreLike (wholes new)) (sym (ap (λ (o : Option Guest). option_map_or (λ g. with_guest (wholes old) p (f g)) o (wholes old)) (guest_is old p process there))) wholes_put);
     others = record { spaces = beside.spaces; there = λ q other. beside.there q; processes = elsewhere };
     places = record {
       spaces = beside.there;

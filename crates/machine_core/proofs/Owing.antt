@@ -13,7 +13,7 @@ use Rattle.machine_core.specs.Ahead.{ahead, guest_ahead}
 use Rattle.machine_core.specs.Held.{Makes}
 use Rattle.machine_core.specs.Kept.{IsBeside, guest_lent, guest_seen}
 use Rattle.machine_core.specs.Tried.{each_counted, tried_counted}
-use Rattle.machine_core.specs.Turns.{executed, outcome_of, state_left, store_made, translations_executed}
+use Rattle.machine_core.specs.Turns.{AreLikeGuests, executed, outcome_of, state_left, store_made, translations_executed}
 use Rattle.machine_core.specs.declared.process.Process as declared
 use Rattle.machine_core.specs.declared.view.View.{View}
 use Rattle.machine_core.proofs.Accessing.{Came, executes, performed}
@@ -25,7 +25,7 @@ pub record IsExecutedOwing (k n : ℕ) (old new : View) (before after : declared
   pub loan : new.memory.ghost_name ≡ old.memory.ghost_name
   pub space : new.space ≡ old.space
   pub outcome_is : o ≡ outcome_of old.space (guest_ahead k (guest_lent old before))
-  pub after_is : guest_ahead n (guest_lent new after) ≡ executed old.space (guest_ahead k (guest_lent old before))
+  pub after_is : AreLikeGuests (guest_ahead n (guest_lent new after)) (executed old.space (guest_ahead k (guest_lent old before)))
   pub beside : IsBeside old.space (spaces_lent old) (spaces_lent new)
 
 -- what calls came to, with what is owed
@@ -74,7 +74,7 @@ owing k n pc old new process regs o done runs made =
       loan = all.same.loan;
       space = all.same.space;
       outcome_is = one.outcome_is;
-      after_is = ap (λ p. guest_seen p (spaces_lent new) (ahead n (lists_lent new)) (record { regs = regs; state = state_left o process.state; saved = process.saved })) all.same.space
-          ∙ one.after_is;
+      after_is = subst (λ p. AreLikeGuests (guest_seen p (spaces_lent new) (ahead n (lists_lent new)) (record { regs = regs; state = state_left o process.state; saved = process.saved }))
+          (executed old.space (guest_ahead k (guest_lent old process)))) (sym all.same.space) one.after_is;
       beside = one.beside;
     }

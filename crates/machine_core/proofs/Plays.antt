@@ -1,4 +1,4 @@
-use Rattle.std.proofs.Common.{◌≡◌, ℕ, ◌+◌, ◌<◌, ◌==◌, ◌&&◌, not, zero, suc, Bool, true, false, cond, List, [], ◌∷◌, length, drop, sym, ap, subst, ◌∙◌, refl, arith, Option, Some, None}
+use Rattle.std.proofs.Common.{◌≡◌, ℕ, ◌+◌, ◌<◌, ◌==◌, ◌&&◌, not, zero, suc, Bool, true, false, cond, List, [], ◌∷◌, length, drop, get_or, sym, ap, subst, ◌∙◌, refl, arith, Option, Some, None}
 use Rattle.std.specs.Option.{option_map, option_map_or}
 use Rattle.std.specs.FinMap.{get}
 use Rattle.ovl_io.specs.Keys.{by_key, get_same, get_other}
@@ -97,11 +97,27 @@ drop_past [] (suc i) h = refl
 drop_past (x ∷ turns) zero h = absurd (omega arith)
 drop_past (x ∷ turns) (suc i) h = drop_past turns i (omega arith)
 
+pub run_next : (turns : List ℕ) (i : ℕ) (state : Wholes) → i < length turns
+    → run_over (drop i turns) state ≡ run_over (drop (i + 1) turns) (after_number (get_or turns i 0) state)
+run_next [] i state below = absurd (omega (arith, below))
+run_next (x ∷ turns) zero state below = refl
+run_next (x ∷ turns) (suc i) state below =
+    let one : suc (i + 1) ≡ suc i + 1 = omega arith in
+    run_next turns i state (omega (arith, below)) ∙ ap (λ n. run_over (drop n (x ∷ turns)) (after_number (get_or turns i 0) state)) one
+
 pub run_all : (turns : List ℕ) (i : ℕ) (state : Wholes) → length turns < i + 1 → run_over (drop i turns) state ≡ state
 run_all turns i state past = ap (λ rest. run_over rest state) (drop_past turns i past)
 
 -- where one still runs, its space is still there
 pub spaces_kept : (p : ℕ) (old new : Machine) → HaveSpaces old → is_running (wholes old) p ≡ true → StaysBut p old new → KeepsPlaces old new → HaveSpaces new
-spaces_kept p old new have running stay places q runs_now = by_key q p
-    (λ same. ap (has_space new) same ∙ places.spaces p ∙ have p running)
-    (λ other. places.spaces q ∙ have q (runs_shown old q ∙ ap (λ (o : Option declared.Process). option_map_or (λ (process : declared.Process). runs process.state) o false) (sym (stay.processes q other)) ∙ sym (runs_shown new q) ∙ runs_now))
+spaces_kept p old new have running stay places = record {
+  there = λ q runs_now. places.spaces q ∙ have.there q (ran q runs_now);
+  none_awaits = λ q runs_now. places.awaiting q ∙ have.none_awaits q (ran q runs_now);
+}
+  where
+    ran : (q : ℕ) → is_running (wholes new) q ≡ true → is_running (wholes old) q ≡ true
+    ran q runs_now = by_key q p
+        (λ same. ap (is_running (wholes old)) same ∙ running)
+        (λ other.
+        runs_shown old q ∙ ap (λ (o : Option declared.Process). option_map_or (λ (process : declared.Process). runs process.state) o false) (sym (stay.processes q other))
+        ∙ sym (runs_shown new q) ∙ runs_now)

@@ -15,9 +15,9 @@ use Rattle.rv_execute.specs.declared.outcome.Outcome.{Outcome}
 use Rattle.rv_execute.specs.declared.outcome.Outcome.TheVariants as outcome
 use Rattle.machine_core.specs.Access.{IsReadyView, spaces_lent}
 use Rattle.machine_core.specs.Ahead.{guest_ahead}
-use Rattle.machine_core.specs.Executions.{Comes, Executions, IsLast, after_steps, executions, resumed, steps_in, stops_in}
+use Rattle.machine_core.specs.Executions.{AreLikeExecutions, Comes, Executions, after_steps, executions, steps_in, stops_in}
 use Rattle.machine_core.specs.Held.{GoesOn, GoesPast, IsHeld, IsInHand, IsLeft, IsTaken, IsWordAt, Keeps, KeepsLines}
-use Rattle.machine_core.specs.Turns.{Guest, executed, outcome_of}
+use Rattle.machine_core.specs.Turns.{AreLikeGuests, Guest, executed, outcome_of}
 use Rattle.overlay_pages.specs.State.{State}
 use Rattle.machine_core.specs.Kept.{IsBeside, guest_lent}
 use Rattle.machine_core.specs.declared.process.Process.{Process}
@@ -26,7 +26,7 @@ use Rattle.machine_core.specs.declared.hand.Course.TheVariants.{On, Elsewhere, L
 use Rattle.machine_core.specs.declared.hand.Hand.{Hand}
 use Rattle.machine_core.specs.declared.view.View.{View}
 use Rattle.machine_core.proofs.Holding.{word_is}
-use Rattle.machine_core.proofs.Stepping.{is_so_far, no_step, on_so_far, one_step, so_far, still_runs}
+use Rattle.machine_core.proofs.Stepping.{comes, from_first, is_so_far, on_so_far, one_step, so_far, still_runs}
 
 -- A run of a line in hand.
 
@@ -114,9 +114,9 @@ module _ (lines : List (List ℕ)) (old view : View) (hand left : Hand) (n pc ne
 
 -- One more of them.
 module _ (stops : Addresses) (p : ℕ) (guest : Guest) (most k owed : ℕ) (old new : View) (before after : Process) (o : Outcome) (same : old.space ≡ p) (below : k < most)
-    (is : executions stops p most guest ≡ after_steps k (so_far k stops p (most - k) (guest_ahead (owed + k) (guest_lent old before)))) (past : 0 < k → contains stops before.regs.pc ≡ false)
-    (came : (n : ℕ) → o ≡ outcome_of old.space (guest_ahead n (guest_lent old before)))
-    (moved : (n : ℕ) → guest_ahead (n + 1) (guest_lent new after) ≡ executed old.space (guest_ahead n (guest_lent old before))) where
+    (is : AreLikeExecutions (after_steps k (so_far k stops p (most - k) (guest_ahead (owed + k) (guest_lent old before)))) (executions stops p most guest))
+    (past : 0 < k → contains stops before.regs.pc ≡ false) (came : (n : ℕ) → o ≡ outcome_of old.space (guest_ahead n (guest_lent old before)))
+    (moved : (n : ℕ) → AreLikeGuests (guest_ahead (n + 1) (guest_lent new after)) (executed old.space (guest_ahead n (guest_lent old before)))) where
   abbrev all : Executions
   all = executions stops p most guest
 
@@ -126,46 +126,30 @@ module _ (stops : Addresses) (p : ℕ) (guest : Guest) (most k owed : ℕ) (old 
   abbrev next : Guest
   next = guest_ahead (owed + (k + 1)) (guest_lent new after)
 
-  begins : all ≡ after_steps k (executions stops p (most - k) now)
-  begins = is ∙ ap (after_steps k) (on_so_far stops p k (most - k) now past)
+  begins : AreLikeExecutions (after_steps k (executions stops p (most - k) now)) all
+  begins = subst (λ e. AreLikeExecutions (after_steps k e) all) (on_so_far stops p k (most - k) now past) is
 
-  next_is : next ≡ executed p now
+  next_is : AreLikeGuests next (executed old.space now)
   next_is =
-      let one : owed + (k + 1) ≡ owed + k + 1 = omega arith in
-      ap (λ n. guest_ahead n (guest_lent new after)) one ∙ moved (owed + k) ∙ ap (λ n. executed n now) same
+      let one : owed + k + 1 ≡ owed + (k + 1) = omega arith in
+      subst (λ n. AreLikeGuests (guest_ahead n (guest_lent new after)) (executed old.space now)) one (moved (owed + k))
 
-  pub one_more : o ≡ outcome.Stepped → all ≡ after_steps (k + 1) (resumed stops p (most - (k + 1)) next)
-  one_more stepped = one_step stops p all most k now next below begins (sym stepped ∙ came (owed + k) ∙ ap (λ n. outcome_of n now) same) next_is
+  next_of : AreLikeGuests next (executed p now)
+  next_of = subst (λ q. AreLikeGuests next (executed q now)) same next_is
 
-  pub one_so_far : o ≡ outcome.Stepped → all ≡ after_steps (k + 1) (so_far (k + 1) stops p (most - (k + 1)) next)
-  one_so_far stepped = one_more stepped ∙ ap (after_steps (k + 1)) (is_so_far stops p (k + 1) (most - (k + 1)) next (omega arith))
+  came_of : o ≡ outcome_of p now
+  came_of = came (owed + k) ∙ ap (λ n. outcome_of n now) same
+
+  pub one_so_far : o ≡ outcome.Stepped → AreLikeExecutions (after_steps (k + 1) (so_far (k + 1) stops p (most - (k + 1)) next)) all
+  one_so_far stepped =
+      subst (λ e. AreLikeExecutions (after_steps (k + 1) e) all) (is_so_far stops p (k + 1) (most - (k + 1)) next (omega arith))
+      (one_step stops p all most k now next below begins next_of (sym stepped ∙ came_of))
 
   pub runs_on : o ≡ outcome.Stepped → before.state ≡ state.Running → after.state ≡ state.Running
-  runs_on stepped running =
-      still_runs old.space now next running (sym stepped ∙ came (owed + k))
-      (let one : owed + (k + 1) ≡ owed + k + 1 = omega arith in ap (λ n. guest_ahead n (guest_lent new after)) one ∙ moved (owed + k))
+  runs_on stepped running = still_runs old.space now next running (sym stepped ∙ came (owed + k)) next_is
 
-  -- so what came of them
-  came_by : (v : Outcome) → o ≡ v → v ≡ outcome_of p now → Comes stops p most guest (k + steps_in v) v next
-  came_by outcome.Stepped stepped is = (omega (arith, below), one_more stepped)
-  came_by outcome.Asked v_is is =
-      count (no_step stops p outcome.Asked all most k now next below begins is (λ same. cc) next_is)
-    where
-      count : IsLast all k outcome.Asked next → (k + 0 ≤ most) × IsLast all (k + 0) outcome.Asked next
-      count last = let none : k ≡ k + 0 = omega arith in (omega (arith, below), subst (λ n. IsLast all n outcome.Asked next) none last)
-  came_by (outcome.Fault kind address) v_is is =
-      count (no_step stops p (outcome.Fault kind address) all most k now next below begins is (λ same. cc) next_is)
-    where
-      count : IsLast all k (outcome.Fault kind address) next → (k + 0 ≤ most) × IsLast all (k + 0) (outcome.Fault kind address) next
-      count last = let none : k ≡ k + 0 = omega arith in (omega (arith, below), subst (λ n. IsLast all n (outcome.Fault kind address) next) none last)
-  came_by (outcome.Full units limit) v_is is =
-      count (no_step stops p (outcome.Full units limit) all most k now next below begins is (λ same. cc) next_is)
-    where
-      count : IsLast all k (outcome.Full units limit) next → (k + 0 ≤ most) × IsLast all (k + 0) (outcome.Full units limit) next
-      count last = let none : k ≡ k + 0 = omega arith in (omega (arith, below), subst (λ n. IsLast all n (outcome.Full units limit) next) none last)
-
-  pub comes : Comes stops p most guest (k + steps_in o) o next
-  comes = came_by o refl (came (owed + k) ∙ ap (λ n. outcome_of n now) same)
+  pub came_by : Comes stops p most guest (k + steps_in o) o next
+  came_by = comes stops p all most k now next below begins next_of guest refl o came_of
 
 -- what each of two stretches leaves beside, both do
 pub both_beside : (p : ℕ) (old mid new : State) → IsBeside p old mid → IsBeside p mid new → IsBeside p old new
@@ -182,8 +166,8 @@ pub record AreRun (stops : Addresses) (lines : List (List ℕ)) (old now : View)
   pub loan : now.memory.ghost_name ≡ old.memory.ghost_name
   pub space : now.space ≡ old.space
   pub ready : IsReadyView now
-  pub all : executions stops old.space most (guest_ahead hand.owed (guest_lent old before))
-      ≡ after_steps k (so_far k stops old.space (most - k) (guest_ahead (hand.owed + k) (guest_lent now process)))
+  pub all : AreLikeExecutions (after_steps k (so_far k stops old.space (most - k) (guest_ahead (hand.owed + k) (guest_lent now process))))
+      (executions stops old.space most (guest_ahead hand.owed (guest_lent old before)))
   pub running : process.state ≡ state.Running
   pub saved : process.saved ≡ before.saved
   pub beside : IsBeside old.space (spaces_lent old) (spaces_lent now)
@@ -192,6 +176,36 @@ pub record AreRun (stops : Addresses) (lines : List (List ℕ)) (old now : View)
   pub line : IsHeld lines now.memory.now now.space (LINE_BYTES * (pc / LINE_BYTES))
   pub hand_is : IsInHand lines now.memory.now now.space hand
   pub rest_is : rest ≡ drop k words
+
+-- at its start no step was taken
+pub begun_run : (stops : Addresses) (lines : List (List ℕ)) (view : View) (process : Process) (hand : Hand) (most pc k : ℕ) (words : List (Option Instr)) → k ≡ 0
+    → pc ≡ process.regs.pc → process.state ≡ state.Running → IsReadyView view → IsTaken lines view.memory.now view.space hand process.regs.pc
+    → AreRun stops lines view view process process hand hand most pc words words k
+begun_run stops lines view process hand most pc k words none is running ready taken =
+    let held = held_at lines view.memory.now view.space hand pc (subst (IsTaken lines view.memory.now view.space hand) (sym is) taken) in
+    let low = held.low in
+    let aligned = taken.aligned in
+    let owes : hand.owed ≡ hand.owed + 0 = omega arith in
+    let first : AreLikeExecutions (after_steps 0 (executions stops view.space (most - 0) (guest_ahead (hand.owed + 0) (guest_lent view process))))
+    (executions stops view.space most (guest_ahead hand.owed (guest_lent view process))) =
+    subst (λ n. AreLikeExecutions (after_steps 0 (executions stops view.space (most - 0) (guest_ahead n (guest_lent view process))))
+    (executions stops view.space most (guest_ahead hand.owed (guest_lent view process)))) owes
+    (from_first stops view.space most (guest_ahead hand.owed (guest_lent view process))) in
+    subst (AreRun stops lines view view process process hand hand most pc words words) (sym none)
+    (record {
+      loan = refl;
+      space = refl;
+      ready = ready;
+      all = first;
+      running = running;
+      saved = refl;
+      beside = record { spaces = λ q other. refl; there = λ q. refl; awaiting = refl; mark = refl };
+      kept = refl;
+      here = omega (arith, is, aligned, low);
+      line = held;
+      hand_is = taken.hand_is;
+      rest_is = refl;
+    })
 
 -- The first words of a line, of which so many are left.
 pub rest_of : (rest : List (Option Instr)) → take (length rest - 1) (drop 1 rest) ≡ drop 1 rest
@@ -224,11 +238,11 @@ module _ (stops : Addresses) (lines : List (List ℕ)) (old mid : View) (before 
 
   -- It was executed, and that came of it.
   module _ (new : View) (after : Process) (o : Outcome) (came : (n : ℕ) → o ≡ outcome_of mid.space (guest_ahead n (guest_lent mid process)))
-      (moved : (n : ℕ) → guest_ahead (n + 1) (guest_lent new after) ≡ executed mid.space (guest_ahead n (guest_lent mid process))) where
+      (moved : (n : ℕ) → AreLikeGuests (guest_ahead (n + 1) (guest_lent new after)) (executed mid.space (guest_ahead n (guest_lent mid process)))) where
     -- what came ends the run
     pub ends : Comes stops old.space most (guest_ahead hand.owed (guest_lent old before)) (done + steps_in o) o (guest_ahead (hand.owed + (done + 1)) (guest_lent new after))
     ends =
-        comes stops old.space (guest_ahead hand.owed (guest_lent old before)) most done hand.owed mid new process after o so.space below so.all is_past came moved
+        came_by stops old.space (guest_ahead hand.owed (guest_lent old before)) most done hand.owed mid new process after o so.space below so.all is_past came moved
 
     pub ends_running : o ≡ outcome.Stepped → after.state ≡ state.Running
     ends_running stepped =

@@ -1,15 +1,16 @@
-use Rattle.std.proofs.Common.{◌≡◌, ℕ, zero, suc, ◌+◌, ◌-◌, ◌<◌, Bool, true, false, cond, sym, ap, ◌∙◌, refl, arith, Option, Some, None}
+use Rattle.std.proofs.Common.{◌≡◌, ℕ, zero, suc, ◌+◌, ◌-◌, ◌<◌, ◌≤◌, Bool, true, false, cond, sym, ap, subst, ◌∙◌, refl, arith, Option, Some, None}
 use Rattle.std.specs.Option.{option_map_or}
 use Rattle.ovl_io.specs.declared.process_state.ProcessState.{ProcessState}
 use Rattle.ovl_io.specs.declared.process_state.ProcessState.TheVariants as state
 use Rattle.rv_execute.specs.declared.outcome.Outcome.{Outcome}
 use Rattle.rv_execute.specs.declared.outcome.Outcome.TheVariants as outcome
 use Rattle.rv_execute.specs.Execution.{Upshot, Steps, Asks, Faults, outcome_by}
-use Rattle.machine_core.specs.Process.{runs}
+use Rattle.machine_core.specs.Process.{Process, runs}
 use Rattle.machine_core.specs.Machine.{Wholes, unit_limit}
-use Rattle.machine_core.specs.Turns.{Guest, after_execution, executed, execution_of, guest_at, guest_executed, guest_refused, is_full, outcome_found, outcome_of, state_executed, units_needed, with_guest}
+use Rattle.machine_core.specs.Laws.{executions_chain, guests_chain, guests_itself, like_behind, like_resumed}
+use Rattle.machine_core.specs.Turns.{AreLikeGuests, Guest, after_execution, executed, execution_of, guest_at, guest_executed, guest_refused, is_full, outcome_found, outcome_of, state_executed, units_needed, with_guest}
 use Rattle.breakpoints.specs.Breakpoints.{Addresses}
-use Rattle.machine_core.specs.Executions.{Executions, after_executions, all_executed, Comes, IsLast, after_steps, executions, first_execution, is_at_stop, last_outcome, more_executions, no_execution, resumed, steps_in, stopped_execution}
+use Rattle.machine_core.specs.Executions.{AreLikeExecutions, Executions, after_executions, all_executed, Comes, IsLast, after_steps, executions, first_execution, is_at_stop, last_execution, last_outcome, more_executions, no_execution, resumed, steps_in, stopped_execution}
 
 -- Executions so far, and those that are left.
 
@@ -35,18 +36,19 @@ module _ (stops : Addresses) (p : ℕ) where
   left_more : (most k : ℕ) → k < most → most - k ≡ suc (most - (k + 1))
   left_more most k below = omega arith
 
-  unrolled : (all : Executions) (most k : ℕ) (now : Guest) (o : Outcome) → k < most → all ≡ after_steps k (executions stops p (most - k) now)
-      → outcome_of p now ≡ o → all ≡ after_steps k (first_execution stops o now (executed p now) (executions stops p (most - (k + 1)) (executed p now)))
-  unrolled all most k now o below is came =
-      is ∙ ap (λ n. after_steps k (executions stops p n now)) (left_more most k below)
+  unrolled : (most k : ℕ) (now : Guest) (o : Outcome) → k < most → outcome_of p now ≡ o
+      → after_steps k (executions stops p (most - k) now) ≡ after_steps k (first_execution stops o now (executed p now) (executions stops p (most - (k + 1)) (executed p now)))
+  unrolled most k now o below came =
+      ap (λ n. after_steps k (executions stops p n now)) (left_more most k below)
       ∙ ap (λ v. after_steps k (first_execution stops v now (executed p now) (executions stops p (most - (k + 1)) (executed p now)))) came
 
-  from_first : (most : ℕ) (now : Guest) → executions stops p most now ≡ after_steps 0 (executions stops p (most - 0) now)
+  pub from_first : (most : ℕ) (now : Guest) → AreLikeExecutions (after_steps 0 (executions stops p (most - 0) now)) (executions stops p most now)
   from_first most now =
-      let all : most ≡ most - 0 = omega arith in
-      let e = executions stops p (most - 0) now in
-      let count : e.steps ≡ 0 + e.steps = omega arith in
-      ap (λ n. executions stops p n now) all ∙ (λ i. record { steps = count i; before = e.before; outcome = e.outcome; after = e.after })
+      let all : most - 0 ≡ most = omega arith in
+      subst (λ n. AreLikeExecutions (after_steps 0 (executions stops p n now)) (executions stops p most now)) (sym all) (none_before (executions stops p most now))
+    where
+      none_before : (e : Executions) → AreLikeExecutions (after_steps 0 e) e
+      none_before e = record { steps = omega arith; before = guests_itself e.before; outcome_is = refl; after = guests_itself e.after }
 
   -- a step: it isn't known yet whether it leaves the pc at a stop
   step_by : (t : Bool) (k : ℕ) (others : Executions) (next : Guest)
@@ -56,48 +58,53 @@ module _ (stops : Addresses) (p : ℕ) where
       let more : k + (others.steps + 1) ≡ k + 1 + others.steps = omega arith in
       λ i. record { steps = more i; before = others.before; outcome = others.outcome; after = others.after }
 
-  pub one_step : (all : Executions) (most k : ℕ) (now next : Guest) → k < most → all ≡ after_steps k (executions stops p (most - k) now)
-      → outcome.Stepped ≡ outcome_of p now → next ≡ executed p now → all ≡ after_steps (k + 1) (resumed stops p (most - (k + 1)) next)
-  one_step all most k now next below is stepped moved =
-      unrolled all most k now outcome.Stepped below is (sym stepped)
-      ∙ step_by (is_at_stop stops (executed p now)) k (executions stops p (most - (k + 1)) (executed p now)) (executed p now)
-      ∙ ap (λ g. after_steps (k + 1) (resumed stops p (most - (k + 1)) g)) (sym moved)
+  -- one more, of those that come to the executions of all
+  module _ (all : Executions) (most k : ℕ) (now next : Guest) (below : k < most) (is : AreLikeExecutions (after_steps k (executions stops p (most - k) now)) all)
+      (moved : AreLikeGuests next (executed p now)) where
+    first_is : (o : Outcome) → o ≡ outcome_of p now
+        → AreLikeExecutions (after_steps k (first_execution stops o now (executed p now) (executions stops p (most - (k + 1)) (executed p now)))) all
+    first_is o came = subst (λ e. AreLikeExecutions e all) (unrolled most k now o below (sym came)) is
 
-  pub no_step : (o : Outcome) (all : Executions) (most k : ℕ) (now next : Guest) → k < most → all ≡ after_steps k (executions stops p (most - k) now)
-      → o ≡ outcome_of p now → (o ≡ outcome.Stepped → ⊥) → next ≡ executed p now → IsLast all k o next
-  no_step outcome.Stepped all most k now next below is came other moved = absurd (other refl)
-  no_step outcome.Asked all most k now next below is came other moved =
-      let last = unrolled all most k now outcome.Asked below is (sym came) in
-      record {
-        steps = omega (arith, ap (λ (e : Executions). e.steps) last);
-        outcome_is = sym (ap (λ (e : Executions). e.outcome) last);
-        after_is = moved ∙ sym (ap (λ (e : Executions). e.after) last);
-      }
-  no_step (outcome.Fault kind address) all most k now next below is came other moved =
-      let last = unrolled all most k now (outcome.Fault kind address) below is (sym came) in
-      record {
-        steps = omega (arith, ap (λ (e : Executions). e.steps) last);
-        outcome_is = sym (ap (λ (e : Executions). e.outcome) last);
-        after_is = moved ∙ sym (ap (λ (e : Executions). e.after) last);
-      }
-  no_step (outcome.Full units limit) all most k now next below is came other moved =
-      let last = unrolled all most k now (outcome.Full units limit) below is (sym came) in
-      record {
-        steps = omega (arith, ap (λ (e : Executions). e.steps) last);
-        outcome_is = sym (ap (λ (e : Executions). e.outcome) last);
-        after_is = moved ∙ sym (ap (λ (e : Executions). e.after) last);
-      }
+    pub one_step : outcome.Stepped ≡ outcome_of p now → AreLikeExecutions (after_steps (k + 1) (resumed stops p (most - (k + 1)) next)) all
+    one_step stepped =
+        executions_chain _ (after_steps (k + 1) (resumed stops p (most - (k + 1)) (executed p now))) all
+        (like_behind (k + 1) _ _ (like_resumed stops p (most - (k + 1)) next (executed p now) moved))
+        (subst (λ e. AreLikeExecutions e all) (step_by (is_at_stop stops (executed p now)) k (executions stops p (most - (k + 1)) (executed p now)) (executed p now))
+        (first_is outcome.Stepped stepped))
+
+    last_is : (o : Outcome) → AreLikeExecutions (after_steps k (last_execution o now (executed p now))) all → IsLast all k o next
+    last_is o last = record {
+      steps = omega (arith, last.steps);
+      outcome_is = last.outcome_is;
+      after_is = guests_chain next (executed p now) all.after moved last.after;
+    }
+
+    pub no_step : (o : Outcome) → o ≡ outcome_of p now → (o ≡ outcome.Stepped → ⊥) → IsLast all k o next
+    no_step outcome.Stepped came other = absurd (other refl)
+    no_step outcome.Asked came other = last_is outcome.Asked (first_is outcome.Asked came)
+    no_step (outcome.Fault kind address) came other = last_is (outcome.Fault kind address) (first_is (outcome.Fault kind address) came)
+    no_step (outcome.Full units limit) came other = last_is (outcome.Full units limit) (first_is (outcome.Full units limit) came)
+
+    -- so what came of them
+    ended : (first : Guest) → all ≡ executions stops p most first → (o : Outcome) → IsLast all k o next
+        → (k + 0 ≤ most) × IsLast (executions stops p most first) (k + 0) o next
+    ended first whole o last =
+        let none : k ≡ k + 0 = omega arith in
+        (omega (arith, below), subst (λ n. IsLast (executions stops p most first) n o next) none (subst (λ e. IsLast e k o next) whole last))
+
+    pub comes : (first : Guest) → all ≡ executions stops p most first → (o : Outcome) → o ≡ outcome_of p now → Comes stops p most first (k + steps_in o) o next
+    comes first whole outcome.Stepped came =
+        (omega (arith, below), subst (AreLikeExecutions (after_steps (k + 1) (resumed stops p (most - (k + 1)) next))) whole (one_step came))
+    comes first whole outcome.Asked came = ended first whole outcome.Asked (no_step outcome.Asked came (λ same. cc))
+    comes first whole (outcome.Fault kind address) came = ended first whole (outcome.Fault kind address) (no_step (outcome.Fault kind address) came (λ same. cc))
+    comes first whole (outcome.Full units limit) came = ended first whole (outcome.Full units limit) (no_step (outcome.Full units limit) came (λ same. cc))
 
   -- the first of some
-  pub first_comes : (o : Outcome) (most : ℕ) (now next : Guest) → 0 < most → o ≡ outcome_of p now → next ≡ executed p now → Comes stops p most now (steps_in o) o next
-  first_comes outcome.Stepped most now next some came moved =
-      (omega (arith, some), one_step (executions stops p most now) most 0 now next some (from_first most now) came moved)
-  first_comes outcome.Asked most now next some came moved =
-      (omega arith, no_step outcome.Asked (executions stops p most now) most 0 now next some (from_first most now) came (λ same. cc) moved)
-  first_comes (outcome.Fault kind address) most now next some came moved =
-      (omega arith, no_step (outcome.Fault kind address) (executions stops p most now) most 0 now next some (from_first most now) came (λ same. cc) moved)
-  first_comes (outcome.Full units limit) most now next some came moved =
-      (omega arith, no_step (outcome.Full units limit) (executions stops p most now) most 0 now next some (from_first most now) came (λ same. cc) moved)
+  pub first_comes : (o : Outcome) (most : ℕ) (now next : Guest) → 0 < most → o ≡ outcome_of p now → AreLikeGuests next (executed p now)
+      → Comes stops p most now (steps_in o) o next
+  first_comes o most now next some came moved =
+      let none : 0 + steps_in o ≡ steps_in o = omega arith in
+      subst (λ n. Comes stops p most now n o next) none (comes (executions stops p most now) most 0 now next some (from_first most now) moved now refl o came)
 
   -- a single one
   pub single_outcome : (found : Option Guest) → last_outcome stops p 1 found ≡ outcome_found p found
@@ -139,11 +146,44 @@ module _ (stops : Addresses) (p : ℕ) where
       let both : k + (n + others.steps) ≡ k + n + others.steps = omega arith in
       λ i. record { steps = both i; before = others.before; outcome = others.outcome; after = others.after }
 
-  module _ (all : Executions) (most k n : ℕ) (now next : Guest) (is : all ≡ after_steps k (executions stops p (most - k) now)) where
-    pub came_on : executions stops p (most - k) now ≡ after_steps n (resumed stops p (most - k - n) next) → all ≡ after_steps (k + n) (resumed stops p (most - (k + n)) next)
+  module _ (all : Executions) (most k n : ℕ) (now next : Guest) (is : AreLikeExecutions (after_steps k (executions stops p (most - k) now)) all) where
+    pub came_on : AreLikeExecutions (after_steps n (resumed stops p (most - k - n) next)) (executions stops p (most - k) now)
+        → AreLikeExecutions (after_steps (k + n) (resumed stops p (most - (k + n)) next)) all
     came_on came =
         let left : most - k - n ≡ most - (k + n) = omega arith in
-        is ∙ ap (after_steps k) came ∙ together k n (resumed stops p (most - k - n) next) ∙ ap (λ m. after_steps (k + n) (resumed stops p m next)) left
+        subst (λ e. AreLikeExecutions e all) (together k n (resumed stops p (most - k - n) next) ∙ ap (λ m. after_steps (k + n) (resumed stops p m next)) left)
+        (executions_chain _ _ _ (like_behind k _ _ came) is)
+
+    -- they end with the last of these
+    pub ended_on : (o : Outcome) → IsLast (executions stops p (most - k) now) n o next → IsLast all (k + n) o next
+    ended_on o last = record {
+      steps = ap (λ m. k + m) last.steps ∙ is.steps;
+      outcome_is = last.outcome_is ∙ is.outcome_is;
+      after_is = guests_chain next _ all.after last.after_is is.after;
+    }
+
+  -- How some end: at the most that there may be, at a stop, or with what is no step.
+  module _ (all : Executions) (most k : ℕ) (next : Guest) where
+    pub ends_full : most ≤ k → AreLikeExecutions (after_steps k (executions stops p (most - k) next)) all → IsLast all k outcome.Stepped next
+    ends_full full is =
+        let none : most - k ≡ 0 = omega (arith, full) in
+        by_last (subst (λ n. AreLikeExecutions (after_steps k (executions stops p n next)) all) none is)
+      where
+        by_last : AreLikeExecutions (after_steps k (no_execution next)) all → IsLast all k outcome.Stepped next
+        by_last last = record { steps = omega (arith, last.steps); outcome_is = last.outcome_is; after_is = last.after }
+
+    pub ends_stopped : is_at_stop stops next ≡ true → AreLikeExecutions (after_steps k (resumed stops p most next)) all → IsLast all k outcome.Stepped next
+    ends_stopped stop is =
+        by_last (subst (λ b. AreLikeExecutions (after_steps k (cond b (no_execution next) (executions stops p most next))) all) stop is)
+      where
+        by_last : AreLikeExecutions (after_steps k (no_execution next)) all → IsLast all k outcome.Stepped next
+        by_last last = record { steps = omega (arith, last.steps); outcome_is = last.outcome_is; after_is = last.after }
+
+    pub comes_last : (now : Guest) (o : Outcome) → (o ≡ outcome.Stepped → ⊥) → Comes stops p most now k o next → IsLast (executions stops p most now) k o next
+    comes_last now outcome.Stepped other came = absurd (other refl)
+    comes_last now outcome.Asked other came = came.1
+    comes_last now (outcome.Fault kind address) other came = came.1
+    comes_last now (outcome.Full units limit) other came = came.1
 
 -- Whether it runs then.
 
@@ -173,6 +213,7 @@ module _ (p : ℕ) where
       by_test false = runs_by (execution_of guest.process).upshot
 
   -- one that took a step runs
-  pub still_runs : (now next : Guest) → now.process.state ≡ state.Running → outcome.Stepped ≡ outcome_of p now → next ≡ executed p now → next.process.state ≡ state.Running
+  pub still_runs : (now next : Guest) → now.process.state ≡ state.Running → outcome.Stepped ≡ outcome_of p now → AreLikeGuests next (executed p now)
+      → next.process.state ≡ state.Running
   still_runs now next running stepped moved =
-      of_running next.process.state (ap (λ (g : Guest). runs g.process.state) moved ∙ runs_after_one now running ∙ sym (ap runs_on stepped))
+      of_running next.process.state (ap (λ (process : Process). runs process.state) moved.process ∙ runs_after_one now running ∙ sym (ap runs_on stepped))

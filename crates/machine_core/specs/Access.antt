@@ -9,7 +9,7 @@ use Rattle.overlay_memory.specs.declared.error.MemoryError.{MemoryError}
 use Rattle.overlay_memory.specs.declared.error.MemoryError.TheVariants.{Unmapped, Forbidden, Full}
 use Rattle.overlay_pages.specs.State.{State, memory_of}
 use Rattle.overlay_pages.specs.Changes.{Fits, limit_of}
-use Rattle.overlay_memory.specs.View.{state_of, translations_of}
+use Rattle.overlay_memory.specs.View.{NoneAwaits, state_of, translations_of}
 use Rattle.translation_cache.specs.Bare.{BareTranslations}
 use Rattle.translation_cache.specs.Counted.{counted}
 use Rattle.space_maps.specs.Spaces.{holds_space}
@@ -40,9 +40,10 @@ lists_lent view = translations_of view.memory.now
 abbrev pub lists_after : View → Access → BareTranslations
 lists_after view access = counted view.space (memory_of (spaces_lent view) view.space) (access ∷ []) (lists_lent view)
 
--- its space is there
+-- its space is there, and no page of it awaits being shared
 pub record IsReadyView (view : View) : Type 0 where
   pub there : holds_space (spaces_lent view) view.space ≡ true
+  pub none_awaits : NoneAwaits (spaces_lent view) view.space
 
 -- the same loan of the same space
 pub record IsSameLoan (old new : View) : Type 0 where

@@ -6,7 +6,7 @@ use Rattle.breakpoints.specs.Breakpoints.{Addresses}
 use Rattle.rv_execute.specs.declared.outcome.Outcome.{Outcome}
 use Rattle.rv_execute.specs.declared.outcome.Outcome.TheVariants.{Stepped, Asked, Fault, Full}
 use Rattle.machine_core.specs.Machine.{Wholes}
-use Rattle.machine_core.specs.Turns.{Guest, executed, guest_at, outcome_of, with_guest}
+use Rattle.machine_core.specs.Turns.{AreLikeGuests, Guest, executed, guest_at, outcome_of, with_guest}
 
 -- Executions of one process, one after the other, up to one that is no step, or that leaves the pc at one of some
 -- addresses: how many steps there were, the process after them, what came of the last execution, and the process after it.
@@ -15,6 +15,13 @@ pub record Executions : Type 0 where
   pub before : Guest
   pub outcome : Outcome
   pub after : Guest
+
+-- executions that differ in the numbers of origins alone
+pub record AreLikeExecutions (a b : Executions) : Type 0 where
+  pub steps : a.steps ≡ b.steps
+  pub before : AreLikeGuests a.before b.before
+  pub outcome_is : a.outcome ≡ b.outcome
+  pub after : AreLikeGuests a.after b.after
 
 -- the addresses that are handed over, if any are
 abbrev pub stops_in : Option (Bor Addresses) → Addresses
@@ -54,11 +61,11 @@ executions stops p (suc most) guest =
 abbrev pub after_steps : ℕ → Executions → Executions
 after_steps k others = record { steps = k + others.steps; before = others.before; outcome = others.outcome; after = others.after }
 
--- the last one of all, which is no step or leaves the pc at a stop
+-- the last one of all, up to the numbers of origins, and how many were steps
 pub record IsLast (all : Executions) (k : ℕ) (o : Outcome) (after : Guest) : Type 0 where
   pub steps : k ≡ all.steps
   pub outcome_is : o ≡ all.outcome
-  pub after_is : after ≡ all.after
+  pub after_is : AreLikeGuests after all.after
 
 -- those behind a step, which may have left the pc at a stop
 abbrev pub resumed : Addresses → ℕ → ℕ → Guest → Executions
@@ -73,7 +80,7 @@ steps_in (Full units limit) = 0
 
 -- What the first of them come to, up to one behind which it isn't known yet whether pc is at a stop, or to one that is no step.
 abbrev pub Comes : Addresses → ℕ → ℕ → Guest → ℕ → Outcome → Guest → Type 0
-Comes stops p most guest n Stepped next = (n ≤ most) × (executions stops p most guest ≡ after_steps n (resumed stops p (most - n) next))
+Comes stops p most guest n Stepped next = (n ≤ most) × AreLikeExecutions (after_steps n (resumed stops p (most - n) next)) (executions stops p most guest)
 Comes stops p most guest n Asked next = (n ≤ most) × IsLast (executions stops p most guest) n Asked next
 Comes stops p most guest n (Fault kind address) next = (n ≤ most) × IsLast (executions stops p most guest) n (Fault kind address) next
 Comes stops p most guest n (Full units limit) next = (n ≤ most) × IsLast (executions stops p most guest) n (Full units limit) next

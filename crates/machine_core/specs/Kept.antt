@@ -11,7 +11,7 @@ use Rattle.overlay_memory.specs.View.{TranslatedView, state_of, translations_of}
 use Rattle.translation_cache.specs.Bare.{BareTranslations}
 use Rattle.space_maps.specs.Spaces.{holds_space, space_in}
 use Rattle.machine_core.specs.Process.{runs}
-use Rattle.machine_core.specs.Machine.{KeepsPlaces, Machine, StaysBut, Wholes, whole_in, wholes}
+use Rattle.machine_core.specs.Machine.{KeepsPlaces, LeadsTo, Machine, StaysBut, Wholes, whole_in}
 use Rattle.machine_core.specs.Turns.{Guest}
 use Rattle.machine_core.specs.declared.view.View.{View}
 use Rattle.machine_core.specs.declared.process.Process as declared
@@ -49,10 +49,10 @@ pub record IsBeside (p : ℕ) (old new : State) : Type 0 where
   pub awaiting : (space_in new p).awaiting ≡ (space_in old p).awaiting
   pub mark : (space_in new p).speculating ≡ (space_in old p).speculating
 
--- A process was changed with its space: the whole processes with the ledger are these now, each other space and process is as it was,
--- and the same ones are there.
-pub record IsChanged (p : ℕ) (old new : Machine) (state : Wholes) : Type 0 where
-  pub after : wholes new ≡ state
+-- A process was changed with its space: each state that the machine stood for leads to one that it stands for, each other space and
+-- process is as it was, and the same ones are there.
+pub record IsChanged (p : ℕ) (old new : Machine) (after : Wholes → Wholes) : Type 0 where
+  pub stands : LeadsTo after old new
   pub others : StaysBut p old new
   pub places : KeepsPlaces old new
 

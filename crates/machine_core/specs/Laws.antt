@@ -35,10 +35,10 @@ use Rattle.translation_cache.specs.CountedLaws.{counted_next, counted_one}
 use Rattle.translation_cache.specs.Translations.{flushed}
 use Rattle.rv_execute.specs.CallLaws.{is_requested}
 use Rattle.machine_core.specs.Machine.{AnswersAs, AreLike, IsDropped, LeadsTo, Machine, Processes, Wholes, is_running, kept_in, kept_whole, unit_limit, lists_of, none_saved, processes_of, spaces_of, whole_in, wholes, with_process_at, without_memory, without_process, without_process_at}
-use Rattle.machine_core.specs.Turns.{Guest, after_asked, after_execution, after_request, after_step, after_turn, asked_found, came_to, exceeds, executed, execution_of, guest_after, guest_answered, guest_at, guest_executed, guest_of, guest_refused, guest_stepped, is_full, ledger_executed, ledger_stored, outcome_found, outcome_of, process_after, process_executed, request_of, state_executed, step_of, store_of, translations_after, translations_asked, translations_executed, turn_asked, turn_in, turn_of, units_needed, with_guest}
+use Rattle.machine_core.specs.Turns.{AreLikeGuests, Guest, after_asked, after_execution, after_request, after_step, after_turn, asked_found, came_to, exceeds, executed, execution_of, guest_after, guest_answered, guest_at, guest_executed, guest_of, guest_refused, guest_stepped, is_full, ledger_executed, ledger_stored, outcome_found, outcome_of, process_after, process_executed, request_of, state_executed, step_of, store_of, translations_after, translations_asked, translations_executed, turn_asked, turn_in, turn_of, units_needed, with_guest}
 use Rattle.std.specs.FinSet.{contains}
 use Rattle.breakpoints.specs.Breakpoints.{Addresses}
-use Rattle.machine_core.specs.Executions.{Executions, after_executions, all_executed, came_to_last, executions, first_execution, is_at_stop, more_executions, steps_to, stopped_execution}
+use Rattle.machine_core.specs.Executions.{AreLikeExecutions, Executions, after_executions, after_steps, all_executed, came_to_last, executions, first_execution, is_at_stop, more_executions, no_execution, resumed, steps_to, stopped_execution}
 use Rattle.machine_core.specs.Play.{after_number, run_over}
 
 -- What the copying machine has of a machine, what states that differ in the numbers of origins alone have in common, and a turn by
@@ -64,12 +64,7 @@ whole_by x y q same process =
     let kept = kept_by x y q same process.saved in
     λ i. record { registers = process.regs; state = process.state; memory = memory i; kept = kept i }
 
--- a process put, and taken away
-pub processes_with : (machine : Machine) (p : ℕ) (process : declared.Process)
-    → processes_of (with_process_at machine p process) ≡ insert (processes_of machine) p (whole_in (spaces_of machine) p process)
-unfolding processes_of
-processes_with machine p process = viewed_put (λ q process. whole_in (spaces_of machine) q process) machine.processes p process
-
+-- a process taken away
 pub wholes_without : (machine : Machine) (p : ℕ) → wholes (without_process_at machine p) ≡ without_process p (wholes machine)
 unfolding processes_of
 wholes_without machine p =
@@ -111,6 +106,9 @@ wholes_dropped p old new absent dropped =
 pub like_itself : (a : Wholes) → AreLike a a
 like_itself a = record { processes = refl; ledger = alike_itself a.ledger; frames = refl; translations = refl }
 
+pub like_same : (a b : Wholes) → a ≡ b → AreLike a b
+like_same a b same = subst (AreLike a) same (like_itself a)
+
 pub like_back : (a b : Wholes) → AreLike a b → AreLike b a
 like_back a b like = record {
   processes = sym like.processes;
@@ -127,13 +125,14 @@ like_chain a b c h k = record {
   translations = h.translations ∙ k.translations;
 }
 
--- what holds of a machine's own state holds of each that it stands for
+-- what is answered of a machine's own state is so of each that it stands for, and what its own state leads to, up to the numbers of
+-- origins, each leads to
 pub answers : {Answer : Type 0} (f : Wholes → Answer) (machine : Machine) (result : Answer) → ((a b : Wholes) → AreLike a b → f a ≡ f b)
     → result ≡ f (wholes machine) → AnswersAs f machine result
 answers f machine result same is state stands = is ∙ same (wholes machine) state stands
 
-pub leads : (f : Wholes → Wholes) (old new : Machine) → ((a b : Wholes) → AreLike a b → AreLike (f a) (f b)) → wholes new ≡ f (wholes old) → LeadsTo f old new
-leads f old new like is state stands = subst (λ (a : Wholes). AreLike a (f state)) (sym is) (like (wholes old) state stands)
+pub leads : (f : Wholes → Wholes) (old new : Machine) → ((a b : Wholes) → AreLike a b → AreLike (f a) (f b)) → AreLike (wholes new) (f (wholes old)) → LeadsTo f old new
+leads f old new like is state stands = like_chain (wholes new) (f (wholes old)) (f state) is (like (wholes old) state stands)
 
 pub like_without : (p : ℕ) (a b : Wholes) → AreLike a b → AreLike (without_process p a) (without_process p b)
 like_without p a b like = record {
@@ -151,12 +150,21 @@ like_without_pages p a b like = record {
   translations = ap (flushed p) like.translations;
 }
 
--- processes in their places
-pub record AreLikeGuests (a b : Guest) : Type 0 where
-  pub process : a.process ≡ b.process
-  pub ledger : AreAlike a.ledger b.ledger
-  pub frames : a.frames ≡ b.frames
-  pub translations : a.translations ≡ b.translations
+-- Processes in their places that are like each other.
+
+pub guests_itself : (a : Guest) → AreLikeGuests a a
+guests_itself a = record { process = refl; ledger = alike_itself a.ledger; frames = refl; translations = refl }
+
+pub guests_same : (a b : Guest) → a ≡ b → AreLikeGuests a b
+guests_same a b same = subst (AreLikeGuests a) same (guests_itself a)
+
+pub guests_chain : (a b c : Guest) → AreLikeGuests a b → AreLikeGuests b c → AreLikeGuests a c
+guests_chain a b c h k = record {
+  process = h.process ∙ k.process;
+  ledger = alike_chain a.ledger b.ledger c.ledger h.ledger k.ledger;
+  frames = h.frames ∙ k.frames;
+  translations = h.translations ∙ k.translations;
+}
 
 -- the accesses that they try
 like_tried : (p : ℕ) (a b : Guest) → AreLikeGuests a b → translations_executed p a ≡ translations_executed p b
@@ -241,12 +249,21 @@ like_answered p a b like =
       translations = like_requested p a b like;
     }
 
--- executions one after the other
-pub record AreLikeExecutions (a b : Executions) : Type 0 where
-  pub steps : a.steps ≡ b.steps
-  pub before : AreLikeGuests a.before b.before
-  pub outcome_is : a.outcome ≡ b.outcome
-  pub after : AreLikeGuests a.after b.after
+-- Executions one after the other that are like each other.
+
+pub executions_itself : (a : Executions) → AreLikeExecutions a a
+executions_itself a = record { steps = refl; before = guests_itself a.before; outcome_is = refl; after = guests_itself a.after }
+
+pub executions_chain : (a b c : Executions) → AreLikeExecutions a b → AreLikeExecutions b c → AreLikeExecutions a c
+executions_chain a b c h k = record {
+  steps = h.steps ∙ k.steps;
+  before = guests_chain a.before b.before c.before h.before k.before;
+  outcome_is = h.outcome_is ∙ k.outcome_is;
+  after = guests_chain a.after b.after c.after h.after k.after;
+}
+
+pub like_behind : (k : ℕ) (a b : Executions) → AreLikeExecutions a b → AreLikeExecutions (after_steps k a) (after_steps k b)
+like_behind k a b like = record { steps = ap (λ n. k + n) like.steps; before = like.before; outcome_is = like.outcome_is; after = like.after }
 
 like_step : (t u : Bool) (x y : Guest) (r s : Executions) → t ≡ u → AreLikeGuests x y → AreLikeExecutions r s
     → AreLikeExecutions (cond t (stopped_execution x) (more_executions r)) (cond u (stopped_execution y) (more_executions s))
@@ -270,6 +287,18 @@ like_executions stops p (suc most) a b like =
     (like_first stops (outcome_of p a) a b (executed p a) (executed p b) _ _ like (like_executed p a b like)
     (like_executions stops p most (executed p a) (executed p b) (like_executed p a b like)))
 
+like_unless : (t u : Bool) (x y : Guest) (r s : Executions) → t ≡ u → AreLikeGuests x y → AreLikeExecutions r s
+    → AreLikeExecutions (cond t (no_execution x) r) (cond u (no_execution y) s)
+like_unless true true x y r s same k more = record { steps = refl; before = k; outcome_is = refl; after = k }
+like_unless false false x y r s same k more = more
+like_unless true false x y r s same k more = cc
+like_unless false true x y r s same k more = cc
+
+pub like_resumed : (stops : Addresses) (p most : ℕ) (a b : Guest) → AreLikeGuests a b → AreLikeExecutions (resumed stops p most a) (resumed stops p most b)
+like_resumed stops p most a b like =
+    like_unless (is_at_stop stops a) (is_at_stop stops b) a b _ _ (ap (λ (process : Process). contains stops process.registers.pc) like.process) like
+    (like_executions stops p most a b like)
+
 -- of a process that may be there
 module _ (p : ℕ) (a b : Wholes) (like : AreLike a b) where
   at_both : {X : Type 0} (f : Guest → X) (d : X) → ((g h : Guest) → AreLikeGuests g h → f g ≡ f h)
@@ -280,7 +309,7 @@ module _ (p : ℕ) (a b : Wholes) (like : AreLike a b) where
       by_found None = refl
       by_found (Some process) = same (guest_of a process) (guest_of b process) (record { process = refl; ledger = like.ledger; frames = like.frames; translations = like.translations })
 
-  after_both : (f : Guest → Guest) → ((g h : Guest) → AreLikeGuests g h → AreLikeGuests (f g) (f h))
+  pub after_both : (f : Guest → Guest) → ((g h : Guest) → AreLikeGuests g h → AreLikeGuests (f g) (f h))
       → AreLike (option_map_or (λ guest. with_guest a p (f guest)) (guest_at a p) a) (option_map_or (λ guest. with_guest b p (f guest)) (guest_at b p) b)
   after_both f same =
       subst (λ (o : Option Process). AreLike (option_map_or (λ guest. with_guest a p (f guest)) (guest_at a p) a) (option_map_or (λ guest. with_guest b p (f guest)) (option_map (guest_of b) o) b))

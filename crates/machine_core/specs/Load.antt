@@ -1,6 +1,6 @@
 use Rattle.std.specs.Prelude.{◌≡◌, ℕ, ◌+◌, nat_lt, Bool, true, false, List, [], ◌∷◌, ◌++◌, length, map, replicate, if◌then◌else◌, Result, Ok, Err, None}
 use Rattle.std.specs.List.{range_with_len}
-use Rattle.std.specs.FinMap.{empty, from_entries, insert}
+use Rattle.std.specs.FinMap.{from_entries, insert}
 use Rattle.sizes.specs.declared.TheConstants.{STACK_PAGE, STACK_PAGES, STACK_POINTER}
 use Rattle.ovl_io.specs.Memory.{Memory, Page}
 use Rattle.ovl_io.specs.declared.process_state.ProcessState.TheVariants.{Running}
@@ -12,7 +12,7 @@ use Rattle.ledger.specs.Units.{units}
 use Rattle.overlay_memory.specs.declared.error.SpaceError.{SpaceError}
 use Rattle.overlay_memory.specs.declared.error.SpaceError.TheVariants.{Full, Memory as NoMemory}
 use Rattle.rv_execute.specs.Registers.{first_registers}
-use Rattle.space_maps.specs.Spaces.{space_in}
+use Rattle.overlay_memory.specs.View.{NoneAwaits}
 use Rattle.machine_core.specs.Process.{Process}
 use Rattle.machine_core.specs.Machine.{AreLike, Machine, StandsFor, StaysBut, Wholes, has_space, unit_limit, lists_of, shown_process, spaces_of, wholes}
 
@@ -79,7 +79,7 @@ pub record IsLoaded (p : ℕ) (file : List ℕ) (old new : Machine) : Type 0 whe
   pub like : AreLike (wholes new) (with_loaded p file (wholes old))
   pub processes : new.processes ≡ insert old.processes p (shown_process (loaded_process file))
   pub there : has_space new p ≡ true
-  pub none_awaits : (space_in (spaces_of new) p).awaiting ≡ empty
+  pub none_awaits : NoneAwaits (spaces_of new) p
   pub others : StaysBut p old new
 
 -- the same spaces, translations and processes

@@ -8,7 +8,7 @@ use Rattle.sizes.specs.declared.TheConstants.{FRAME_UNITS}
 use Rattle.ledger.specs.Ledger.{Ledger}
 use Rattle.ledger.specs.Alike.{AreAlike}
 use Rattle.overlay_pages.specs.State.{State, base_of, books, memory_of}
-use Rattle.overlay_memory.specs.View.{TranslatedView, state_of, translations_of}
+use Rattle.overlay_memory.specs.View.{NoneAwaits, TranslatedView, state_of, translations_of}
 use Rattle.translation_cache.specs.Bare.{BareTranslations}
 use Rattle.translation_cache.specs.Translations.{flushed}
 use Rattle.ovl_io.specs.Memory.{Memory}
@@ -183,9 +183,10 @@ registers_at state p = option_map registers_of (get state.processes p)
 abbrev pub registers_shown : Option declared.Process → Option (Registers × ProcessState)
 registers_shown found = option_map (λ (process : declared.Process). (process.regs, process.state)) found
 
--- the space of each process that runs is there
-abbrev pub HaveSpaces : Machine → Type 0
-HaveSpaces machine = (p : ℕ) → is_running (wholes machine) p ≡ true → has_space machine p ≡ true
+-- the space of each process that runs is there, and no page of it awaits being shared
+pub record HaveSpaces (machine : Machine) : Type 0 where
+  pub there : (p : ℕ) → is_running (wholes machine) p ≡ true → has_space machine p ≡ true
+  pub none_awaits : (p : ℕ) → is_running (wholes machine) p ≡ true → NoneAwaits (spaces_of machine) p
 
 -- the copying machine without a process
 abbrev pub without_process : ℕ → Wholes → Wholes

@@ -1,6 +1,7 @@
-use Rattle.std.specs.Prelude.{ℕ, nat_lt, Bool, false, if◌then◌else◌, List, [], ◌∷◌, length, map, Option, Some, None}
+use Rattle.std.specs.Prelude.{◌≡◌, ℕ, nat_lt, Bool, false, if◌then◌else◌, List, [], ◌∷◌, length, map, Option, Some, None}
 use Rattle.std.specs.Option.{option_map, option_map_or}
 use Rattle.std.specs.FinMap.{get, insert}
+use Rattle.ledger.specs.Alike.{AreAlike}
 use Rattle.ledger.specs.Ledger.{Ledger}
 use Rattle.ledger.specs.Events.{ledger_after}
 use Rattle.ledger.specs.Events as event
@@ -31,6 +32,13 @@ pub record Guest : Type 0 where
   pub ledger : Ledger
   pub frames : ℕ
   pub translations : BareTranslations
+
+-- processes in their places that differ in the numbers of origins alone
+pub record AreLikeGuests (a b : Guest) : Type 0 where
+  pub process : a.process ≡ b.process
+  pub ledger : AreAlike a.ledger b.ledger
+  pub frames : a.frames ≡ b.frames
+  pub translations : a.translations ≡ b.translations
 
 abbrev pub guest_of : Wholes → Process → Guest
 guest_of state process =

@@ -3,10 +3,11 @@
 ghost use Rattle.std.specs.Prelude.{◌≡◌, true, OnOk, OnErr};
 ghost use Rattle.std.specs.FinMap as map;
 ghost use Rattle.std.specs.Option.{is_some};
-ghost use Rattle.machine_core.specs.Machine.{has_space, is_running, wholes};
+ghost use Rattle.machine_core.specs.Machine.{AnswersAs, has_space, is_running, wholes};
 ghost use Rattle.machine_core.specs.Turns.{after_asked, turn_asked};
 ghost use Rattle.machine_core.specs.Executions.{after_executions, came_to_last, steps_to, stops_in};
 ghost use Rattle.machine_core.specs.Kept.{IsChanged, IsListBut, IsRunningList, machine_of, runs_at};
+ghost use Rattle.overlay_memory.specs.View.{NoneAwaits, state_of};
 
 use crate::guest::answer_request;
 use crate::process::{Process, is_running};
@@ -52,12 +53,14 @@ fn execute_in(
 ) -> ((u32, Outcome), bool)
     requires runs { is_running (wholes (machine_of memory.old processes.old)) p ≡ true }
     requires there { has_space (machine_of memory.old processes.old) p ≡ true }
-    ensures steps { result.0.0 ≡ steps_to (stops_in stops.entry) most (wholes (machine_of memory.old processes.old)) p }
-    ensures outcome { result.0.1
-        ≡ came_to_last (stops_in stops.entry) most (wholes (machine_of memory.old processes.old)) p }
+    requires none_awaits { NoneAwaits (state_of memory.old) p }
+    ensures counts { AnswersAs (λ state. steps_to (stops_in stops.entry) most state p)
+        (machine_of memory.old processes.old) result.0.0 }
+    ensures answers { AnswersAs (λ state. came_to_last (stops_in stops.entry) most state p)
+        (machine_of memory.old processes.old) result.0.1 }
     ensures changed { IsChanged p (machine_of memory.old processes.old)
         (machine_of memory.new processes.new)
-        (after_executions (stops_in stops.entry) most (wholes (machine_of memory.old processes.old)) p) }
+        (λ state. after_executions (stops_in stops.entry) most state p) }
     ensures runs { result.1 ≡ runs_at processes.new p }
 {
     match processes.get_mut(p) {
@@ -84,12 +87,14 @@ pub(crate) fn execute_turns(
     requires kept { IsRunningList processes.old running.old }
     requires runs { is_running (wholes (machine_of memory.old processes.old)) p ≡ true }
     requires there { has_space (machine_of memory.old processes.old) p ≡ true }
-    ensures steps { result.0 ≡ steps_to (stops_in stops.entry) most (wholes (machine_of memory.old processes.old)) p }
-    ensures outcome { result.1
-        ≡ came_to_last (stops_in stops.entry) most (wholes (machine_of memory.old processes.old)) p }
+    requires none_awaits { NoneAwaits (state_of memory.old) p }
+    ensures counts { AnswersAs (λ state. steps_to (stops_in stops.entry) most state p)
+        (machine_of memory.old processes.old) result.0 }
+    ensures answers { AnswersAs (λ state. came_to_last (stops_in stops.entry) most state p)
+        (machine_of memory.old processes.old) result.1 }
     ensures changed { IsChanged p (machine_of memory.old processes.old)
         (machine_of memory.new processes.new)
-        (after_executions (stops_in stops.entry) most (wholes (machine_of memory.old processes.old)) p) }
+        (λ state. after_executions (stops_in stops.entry) most state p) }
     ensures kept { IsRunningList processes.new running.new }
 {
     let (came, runs) = execute_in(processes, memory, lines, p, most, stops);
@@ -104,10 +109,10 @@ pub(crate) fn execute_turns(
 fn answer_in(processes: &mut ByNumber<Process>, memory: &mut OverlayMemory, p: u16) -> (Turn, bool)
     requires runs { is_running (wholes (machine_of memory.old processes.old)) p ≡ true }
     requires there { has_space (machine_of memory.old processes.old) p ≡ true }
-    ensures turn { result.0 ≡ turn_asked (wholes (machine_of memory.old processes.old)) p }
+    ensures answers { AnswersAs (λ state. turn_asked state p) (machine_of memory.old processes.old) result.0 }
     ensures changed { IsChanged p (machine_of memory.old processes.old)
         (machine_of memory.new processes.new)
-        (after_asked (wholes (machine_of memory.old processes.old)) p) }
+        (λ state. after_asked state p) }
     ensures runs { result.1 ≡ runs_at processes.new p }
 {
     match processes.get_mut(p) {
@@ -129,10 +134,10 @@ pub(crate) fn answer_turn(
     requires kept { IsRunningList processes.old running.old }
     requires runs { is_running (wholes (machine_of memory.old processes.old)) p ≡ true }
     requires there { has_space (machine_of memory.old processes.old) p ≡ true }
-    ensures turn { result ≡ turn_asked (wholes (machine_of memory.old processes.old)) p }
+    ensures answers { AnswersAs (λ state. turn_asked state p) (machine_of memory.old processes.old) result }
     ensures changed { IsChanged p (machine_of memory.old processes.old)
         (machine_of memory.new processes.new)
-        (after_asked (wholes (machine_of memory.old processes.old)) p) }
+        (λ state. after_asked state p) }
     ensures kept { IsRunningList processes.new running.new }
 {
     let (turn, runs) = answer_in(processes, memory, p);

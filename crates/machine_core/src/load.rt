@@ -7,7 +7,7 @@ ghost use Rattle.elf_loader.specs.Image.{IsImageOf, page_bytes};
 ghost use Rattle.ledger.specs.Units.{units};
 ghost use Rattle.overlay_pages.specs.Changes.{AreAbsent, limit_of, units_of, with_zeros};
 ghost use Rattle.overlay_pages.specs.State.{books};
-ghost use Rattle.overlay_memory.specs.View.{state_of, translations_of};
+ghost use Rattle.overlay_memory.specs.View.{NoneAwaits, state_of, translations_of};
 ghost use Rattle.space_maps.specs.Spaces.{bare_space, holds_space, page_in, space_in};
 ghost use Rattle.machine_core.specs.Load.{loaded_ledger, stored_count, stored_pages};
 ghost use Rattle.machine_core.specs.Loading.{AreZeros, HasImage, HasStack, IsAdded, IsOpen, IsReady, HasPages, IsSpaceOf, IsUnseen, listed_at};
@@ -67,7 +67,7 @@ fn add_zeros(
     perms: Perms,
 ) -> Result<(), AllocError>
     requires there { holds_space (state_of memory.old) p ≡ true }
-    requires none_awaits { (space_in (state_of memory.old) p).awaiting ≡ map.empty }
+    requires none_awaits { NoneAwaits (state_of memory.old) p }
     requires absent { AreAbsent (state_of memory.old) p page n }
     requires low { page + n ≤ PAGE_END }
     requires few { map.len (space_in (state_of memory.old) p).pages + n ≤ MOST_SPACE_PAGES }
@@ -163,7 +163,7 @@ fn add_image(
 fn add_stack(memory: &mut OverlayMemory, p: u16) -> Result<(), AllocError>
     requires there { holds_space (state_of memory.old) p ≡ true }
     requires unseen { IsUnseen p (translations_of memory.old) }
-    requires none_awaits { (space_in (state_of memory.old) p).awaiting ≡ map.empty }
+    requires none_awaits { NoneAwaits (state_of memory.old) p }
     requires few { map.len (space_in (state_of memory.old) p).pages ≤ MOST_IMAGE_PAGES }
     requires absent { (q : ℕ) → STACK_PAGE ≤ q → page_in (state_of memory.old) p q ≡ None }
     ensures added { OnOk result (HasStack p (state_of memory.old) (state_of memory.new)) }

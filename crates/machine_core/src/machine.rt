@@ -9,7 +9,6 @@ ghost use Rattle.std.specs.Option.{MatchOption, is_some, option_copied};
 ghost use Rattle.sizes.specs.declared.TheConstants.{LAST_SPACE, MOST_FRAMES};
 ghost use Rattle.elf_loader.specs.Image.{IsImageOf};
 ghost use Rattle.overlay_pages.specs.Calls.{IsEmptyState};
-ghost use Rattle.space_maps.specs.Spaces.{space_in};
 ghost use Rattle.translation_cache.specs.Translations.{no_translations};
 ghost use Rattle.machine_core.specs.Machine.{AnswersAs, AreLike, HaveSpaces, IsDropped, KeepsPlaces, LeadsTo, StaysBut, has_saved, has_space, is_marked, is_running, keys_from, lists_of, registers_at, registers_shown, running_numbers, shown_at, spaces_of, wholes, with_memory, with_process_at, without_memory, without_process, without_process_at};
 ghost use Rattle.machine_core.specs.Turns.{after_asked, after_execution, after_turn, came_to, turn_asked, turn_of};
@@ -18,6 +17,7 @@ ghost use Rattle.machine_core.specs.Ample.{IsAmplyTaken};
 ghost use Rattle.machine_core.specs.Play.{AreOwnTurns, after_number, run_over};
 ghost use Rattle.machine_core.specs.Load.{IsAsBefore, IsLoaded, Loads, LoadsAs, is_load_full, page_count, with_loaded};
 ghost use Rattle.machine_core.specs.contracts.machine.Machine.{the_row};
+ghost use Rattle.overlay_memory.specs.View.{NoneAwaits};
 ghost use Rattle.overlay_memory.specs.contracts.memory.OverlayMemory as memory;
 
 use crate::keeping::{adopt, answer_turn, execute_turns, remove, runs_in, set};
@@ -170,7 +170,7 @@ impl Machine {
     /// Takes away space `p`, which is there, of which no page awaits being shared, and which has no process; gives up its pages.
     pub fn drop_space(&mut self, p: u16)
         requires space { has_space self.old p ≡ true }
-        requires none_awaits { (space_in (spaces_of self.old) p).awaiting ≡ map.empty }
+        requires none_awaits { NoneAwaits (spaces_of self.old) p }
         requires no_process { map.get self.old.processes p ≡ None }
         ensures dropped { IsDropped p self.old self.new }
         ensures stands { LeadsTo (without_memory p) self.old self.new }
@@ -228,9 +228,7 @@ impl Machine {
     pub fn execute_up_to(&mut self, p: u16, most: u32, stops: Option<&Addresses>) -> (u32, Outcome)
         requires runs { is_running (wholes self.old) p ≡ true }
         requires there { has_space self.old p ≡ true }
-        ensures steps { result.0 ≡ steps_to (stops_in stops.entry) most (wholes self.old) p }
-        ensures outcome { result.1 ≡ came_to_last (stops_in stops.entry) most (wholes self.old) p }
-        ensures after { wholes self.new ≡ after_executions (stops_in stops.entry) most (wholes self.old) p }
+        requires none_awaits { NoneAwaits (spaces_of self.old) p }
         ensures counts { AnswersAs (λ state. steps_to (stops_in stops.entry) most state p) self.old result.0 }
         ensures answers { AnswersAs (λ state. came_to_last (stops_in stops.entry) most state p)
             self.old result.1 }
@@ -254,8 +252,9 @@ impl Machine {
     fn execute(&mut self, p: u16) -> Outcome
         requires runs { is_running (wholes self.old) p ≡ true }
         requires there { has_space self.old p ≡ true }
-        ensures outcome { result ≡ came_to (wholes self.old) p }
-        ensures after { wholes self.new ≡ after_execution (wholes self.old) p }
+        requires none_awaits { NoneAwaits (spaces_of self.old) p }
+        ensures answers { AnswersAs (λ state. came_to state p) self.old result }
+        ensures stands { LeadsTo (λ state. after_execution state p) self.old self.new }
         ensures others { StaysBut p self.old self.new }
         ensures places { KeepsPlaces self.old self.new }
     {
@@ -266,8 +265,7 @@ impl Machine {
     pub fn answer(&mut self, p: u16) -> Turn
         requires runs { is_running (wholes self.old) p ≡ true }
         requires there { has_space self.old p ≡ true }
-        ensures turn { result ≡ turn_asked (wholes self.old) p }
-        ensures after { wholes self.new ≡ after_asked (wholes self.old) p }
+        requires none_awaits { NoneAwaits (spaces_of self.old) p }
         ensures answers { AnswersAs (λ state. turn_asked state p) self.old result }
         ensures stands { LeadsTo (λ state. after_asked state p) self.old self.new }
         ensures others { StaysBut p self.old self.new }
@@ -282,8 +280,7 @@ impl Machine {
     pub fn event(&mut self, p: u16) -> Turn
         requires runs { is_running (wholes self.old) p ≡ true }
         requires there { has_space self.old p ≡ true }
-        ensures turn { result ≡ turn_of (wholes self.old) p }
-        ensures after { wholes self.new ≡ after_turn (wholes self.old) p }
+        requires none_awaits { NoneAwaits (spaces_of self.old) p }
         ensures answers { AnswersAs (λ state. turn_of state p) self.old result }
         ensures stands { LeadsTo (λ state. after_turn state p) self.old self.new }
         ensures ample { IsAmplyTaken p self.old result }
@@ -301,7 +298,7 @@ impl Machine {
     /// A turn of a number: one instruction where its process is running, and else nothing.
     fn turn(&mut self, p: u16)
         requires spaces { HaveSpaces self.old }
-        ensures after { wholes self.new ≡ after_number p (wholes self.old) }
+        ensures stands { LeadsTo (after_number p) self.old self.new }
         ensures spaces { HaveSpaces self.new }
     {
         if self.is_running(p) {
@@ -314,7 +311,6 @@ impl Machine {
     /// whatever others did between. Takes no memory.
     pub fn play(&mut self, turns: &[u16])
         requires spaces { HaveSpaces self.old }
-        ensures after { wholes self.new ≡ run_over turns.now (wholes self.old) }
         ensures stands { LeadsTo (run_over turns.now) self.old self.new }
         ensures own { AreOwnTurns turns.now (wholes self.old) (wholes self.new) }
     {

@@ -5,15 +5,15 @@ ghost use Rattle.std.specs.FinSet.{contains};
 ghost use Rattle.rv_decode.specs.declared.instruction.Instr.{Instr};
 ghost use Rattle.rv_execute.specs.Execution.{Executed, execution, full_in};
 ghost use Rattle.overlay_pages.specs.State.{memory_of};
-ghost use Rattle.overlay_memory.specs.View.{state_of};
+ghost use Rattle.overlay_memory.specs.View.{NoneAwaits, state_of};
 ghost use Rattle.space_maps.specs.Spaces.{holds_space};
 ghost use Rattle.breakpoints.specs.Breakpoints.{Addresses};
 ghost use Rattle.machine_core.specs.Access.{IsReadyView, spaces_lent};
 ghost use Rattle.machine_core.specs.Ahead.{guest_ahead};
-ghost use Rattle.machine_core.specs.Executions.{Comes, all_executed, executions, steps_in, stops_in};
+ghost use Rattle.machine_core.specs.Executions.{Comes, IsLast, executions, steps_in, stops_in};
 ghost use Rattle.machine_core.specs.Held.{course_behind, AreInLine, GoesOn, GoesPast, IsInHand, IsLeft, IsTaken, IsWordAt, Keeps, Makes};
 ghost use Rattle.machine_core.specs.Kept.{IsBeside, guest_in, guest_lent};
-ghost use Rattle.machine_core.specs.Turns.{executed, outcome_of, state_left};
+ghost use Rattle.machine_core.specs.Turns.{AreLikeGuests, executed, outcome_of, state_left};
 
 use crate::hand::{Course, Hand, course_of};
 use crate::process::Process;
@@ -94,8 +94,8 @@ fn execute_word(process: &mut Process, view: &mut View, word: &Option<Instr>) ->
     ensures space { view.new.space ≡ view.old.space }
     ensures outcome { (n : ℕ) → result.0
         ≡ outcome_of view.old.space (guest_ahead n (guest_lent view.old process.old)) }
-    ensures after { (n : ℕ) → guest_ahead (n + 1) (guest_lent view.new process.new)
-        ≡ executed view.old.space (guest_ahead n (guest_lent view.old process.old)) }
+    ensures after { (n : ℕ) → AreLikeGuests (guest_ahead (n + 1) (guest_lent view.new process.new))
+        (executed view.old.space (guest_ahead n (guest_lent view.old process.old))) }
     ensures saved { process.new.saved ≡ process.old.saved }
     ensures beside { IsBeside view.old.space (spaces_lent view.old) (spaces_lent view.new) }
 {
@@ -301,12 +301,8 @@ fn step_owing(
     requires none { hand.old.owed ≡ 0 }
     ensures loan { view.new.memory.ghost_name ≡ view.old.memory.ghost_name }
     ensures space { view.new.space ≡ view.old.space }
-    ensures steps { result.0
-        ≡ (executions (stops_in stops.entry) view.old.space most (guest_lent view.old process.old)).steps }
-    ensures outcome { result.1
-        ≡ (executions (stops_in stops.entry) view.old.space most (guest_lent view.old process.old)).outcome }
-    ensures after { guest_ahead hand.new.owed (guest_lent view.new process.new)
-        ≡ all_executed (stops_in stops.entry) view.old.space most (guest_lent view.old process.old) }
+    ensures last { IsLast (executions (stops_in stops.entry) view.old.space most (guest_lent view.old process.old))
+        result.0 result.1 (guest_ahead hand.new.owed (guest_lent view.new process.new)) }
     ensures saved { process.new.saved ≡ process.old.saved }
     ensures beside { IsBeside view.old.space (spaces_lent view.old) (spaces_lent view.new) }
 {
@@ -340,12 +336,9 @@ pub(crate) fn execute_up_to(
 ) -> (u32, Outcome)
     requires runs { process.old.state ≡ ProcessState.Running }
     requires there { holds_space (state_of memory.old) p ≡ true }
-    ensures steps { result.0
-        ≡ (executions (stops_in stops.entry) p most (guest_in p memory.old process.old)).steps }
-    ensures outcome { result.1
-        ≡ (executions (stops_in stops.entry) p most (guest_in p memory.old process.old)).outcome }
-    ensures after { guest_in p memory.new process.new
-        ≡ all_executed (stops_in stops.entry) p most (guest_in p memory.old process.old) }
+    requires none_awaits { NoneAwaits (state_of memory.old) p }
+    ensures last { IsLast (executions (stops_in stops.entry) p most (guest_in p memory.old process.old))
+        result.0 result.1 (guest_in p memory.new process.new) }
     ensures saved { process.new.saved ≡ process.old.saved }
     ensures beside { IsBeside p (state_of memory.old) (state_of memory.new) }
 {

@@ -1,5 +1,7 @@
-ghost use Rattle.std.specs.Prelude.{◌≡◌, ◌<◌, ◌≤◌, Ok};
+ghost use Rattle.std.specs.Prelude.{◌≡◌, ◌<◌, ◌≤◌, IfOk, Ok};
 ghost use Rattle.sizes.specs.declared.TheConstants.{MOST_FRAMES};
+ghost use Rattle.overlay_memory.specs.View.{NoneAwaits};
+ghost use Rattle.machine_core.specs.Machine.{spaces_of};
 
 use crate::{Machine, Process, SpaceError};
 use elf_loader::read_image;
@@ -54,10 +56,11 @@ fn pages_of(rt: &impl Abort, loaded: Result<u32, SpaceError>) -> u32
     }
 }
 
-// A machine of 1 to 65,536 frames in which a file is process 1, and how many pages that has.
+// A machine of 1 to 65,536 frames in which a file is process 1, of whose pages none awaits, and how many pages that has.
 fn loaded(rt: &impl Abort, alloc: Global, frames: u32, file: &[u8]) -> Result<(Machine, u32), Fail>
     requires some { 0 < frames }
     requires few { frames ≤ MOST_FRAMES }
+    ensures { IfOk result (λ made. NoneAwaits (spaces_of made.0) 1) }
 {
     let image = read_image(alloc, file)?;
     let mut machine = Machine::new(alloc, frames)?;
@@ -74,7 +77,10 @@ fn shown(rt: &impl Abort, machine: &Machine) -> Process {
 }
 
 // A turn of process 1.
-fn event(rt: &impl Abort, machine: &mut Machine) -> Turn {
+fn event(rt: &impl Abort, machine: &mut Machine) -> Turn
+    requires { NoneAwaits (spaces_of machine.old) 1 }
+    ensures { NoneAwaits (spaces_of machine.new) 1 }
+{
     assert!(rt; machine.is_running(1));
     assert!(rt; machine.memory().has_space(1));
     machine.event(1)
@@ -116,9 +122,8 @@ fn a_store_that_faults_changes_nothing(rt: HostRuntime) -> Result<(), Fail> {
     let file = file_of(rt.alloc(), 7, CROSSES, 4096)?;
     let (mut machine, pages) = loaded(&rt, rt.alloc(), 1024, file.as_slice())?;
     assert_eq!(rt; pages, 18);
-    for _ in 0..2 {
-        assert!(rt; matches!(event(&rt, &mut machine), Turn::Stepped));
-    }
+    assert!(rt; matches!(event(&rt, &mut machine), Turn::Stepped));
+    assert!(rt; matches!(event(&rt, &mut machine), Turn::Stepped));
     let turn = event(&rt, &mut machine);
     assert!(rt; matches!(turn, Turn::Faulted(FaultKind::Store, 0x12000)));
     let mut bytes = [0xFF; 4];

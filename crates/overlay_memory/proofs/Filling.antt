@@ -17,7 +17,7 @@ use Rattle.overlay_pages.specs.Changes.{is_writable, with_written, writes_frame,
 use Rattle.overlay_pages.specs.View.{MemoryView, state_of}
 use Rattle.overlay_memory.specs.Access.{IsUntouched}
 use Rattle.overlay_memory.specs.Pieces.{IsFilled}
-use Rattle.overlay_memory.specs.StateMemory.{base_beside, base_kept, beside_both, beside_put, books_kept, mark_put, memory_put, writable_at, writable_same, writes_same}
+use Rattle.overlay_memory.specs.StateMemory.{base_beside, base_kept, beside_both, beside_put, books_kept, entries_kept, mark_put, memory_put, writable_at, writable_same, writes_same}
 use Rattle.overlay_memory.proofs.LineBytes.{line_written, page_count}
 use Rattle.overlay_memory.proofs.Pieced.{seen_there}
 use Rattle.overlay_memory.proofs.Views.{lines_count}
@@ -83,6 +83,7 @@ written_filled v s p line at bytes old x there is all low whole some fits can =
       base = base_stays v s p line (overwritten old at bytes) x there can;
       bases = λ page far. bases_stay v s p line (overwritten old at bytes) x there at (length bytes) page low some fits far;
       writable = writable_kept v s p line (overwritten old at bytes) x there;
+      entries = entries_kept v s p (written line (overwritten old at bytes) x) x there refl;
       beside = beside_put v s p (written line (overwritten old at bytes) x) x there refl;
     })
   where
@@ -129,6 +130,7 @@ filled_more a b c s address next front rest is one two = record {
   bases = λ page far.
       two.bases page (λ k low same. far (length front + k) (omega (arith, both, low)) (ap (λ a. a / 4096) (further k) ∙ same))
       ∙ one.bases page (λ k low same. far k (omega (arith, both, low)) same);
+  entries = two.entries ∙ one.entries;
   writable = λ page line. two.writable page line ∙ one.writable page line;
   beside = beside_both a b c s one.beside two.beside;
 }

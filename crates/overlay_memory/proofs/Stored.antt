@@ -6,10 +6,12 @@ use Rattle.ovl_io.specs.Memory.{Memory, first_denied, with_bytes}
 use Rattle.ovl_io.specs.MemoryLaws.{access_front, all_allowed, first_refused}
 use Rattle.ovl_io.specs.PageBytes.{page_allows}
 use Rattle.ovl_io.specs.Permissions.{writable}
+use Rattle.ledger.specs.Alike.{AreAlike}
+use Rattle.ledger.specs.AlikeLaws.{alike_itself}
 use Rattle.ledger.specs.Ledger.{Ledger}
 use Rattle.ledger.specs.Touched.{touched}
 use Rattle.ledger.specs.Units.{units}
-use Rattle.overlay_pages.specs.State.{State, memory_of}
+use Rattle.overlay_pages.specs.State.{State, books, memory_of}
 use Rattle.overlay_pages.specs.Changes.{limit_of}
 use Rattle.overlay_pages.specs.View.{MemoryView, state_of}
 use Rattle.overlay_memory.specs.declared.error.MemoryError.{MemoryError}
@@ -34,10 +36,10 @@ stored_none view s address [] none = (
   refl,
   record {
     memory = refl;
-    ledger = refl;
+    ledger = alike_itself (books (state_of view));
     base = λ on. refl;
     bases = λ page far. refl;
-    entries = refl;
+    permissions = refl;
     awaiting = refl;
     mark = refl;
     others = λ q other. refl;
@@ -55,10 +57,10 @@ stored_by a b c s address bytes after row one two =
     let beside = beside_both a b c s one.beside two.beside in
     record {
       memory = two.memory ∙ ap (λ m. with_bytes m address bytes) one.memory;
-      ledger = two.ledger ∙ one.ledger ∙ sym row;
+      ledger = subst (AreAlike (books c)) (two.ledger ∙ one.ledger ∙ sym row) (alike_itself (books c));
       base = λ on. two.base (one.beside.mark ∙ on) ∙ one.base;
       bases = λ page far. two.bases page far ∙ ap (λ m. get m page) one.base;
-      entries = beside.entries;
+      permissions = beside.permissions;
       awaiting = beside.awaiting;
       mark = beside.mark;
       others = beside.others;

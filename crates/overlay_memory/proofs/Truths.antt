@@ -20,7 +20,7 @@ use Rattle.overlay_memory.specs.declared.error.MemoryError.{MemoryError}
 use Rattle.overlay_memory.specs.declared.error.MemoryError.TheVariants.{Unmapped, Forbidden, Full}
 use Rattle.overlay_memory.specs.PageLaws.{HasPage, has_page, held_there, some_is}
 use Rattle.overlay_memory.specs.Pieces.{AreBeside, IsFilled, emptied_space}
-use Rattle.overlay_memory.specs.StateMemory.{entries_at}
+use Rattle.overlay_memory.specs.StateMemory.{entries_at, same_pages}
 use Rattle.overlay_memory.specs.View.{AreTranslated, AreTrue, AwaitApart, TranslatedView, cached_in, cached_page, state_of, translations_of}
 use Rattle.space_ledger.specs.View.{PageView}
 use Rattle.space_maps.specs.Laws.{KeepsSpaces, are_cut, are_put, changed_there, in_space, keeps_page_put, page_absent, page_added, page_awaited, page_marked, page_of, page_put_beside, page_shared_beside, space_beside, space_left, space_put, there_space}
@@ -330,15 +330,15 @@ marked_translated old new s on t is all = same_translated (put_mark old s on) ne
 
 -- Nothing but lines changed, and no ledger.
 
-pub cached_same : (old new : State) (s : ℕ) → AreBeside old new s → books new ≡ books old → (q r : ℕ) → cached_in new q r ≡ cached_in old q r
-cached_same old new s beside ledger q r = by_key q s
+pub cached_same : (old new : State) (s : ℕ) → AreBeside old new s → entries_in new s ≡ entries_in old s → books new ≡ books old → (q r : ℕ) → cached_in new q r ≡ cached_in old q r
+cached_same old new s beside kept ledger q r = by_key q s
     (λ same. by_pages (page_in new q r) refl (page_in old q r) refl (entries_of same))
     (λ other.
     ap (option_map cached_page) (page_of new q r ∙ ap (λ (x : SpaceState). get x.pages r) (beside.others q other) ∙ sym (page_of old q r)))
   where
     entries_of : q ≡ s → option_map (λ (x : PageState). x.entry) (page_in new q r) ≡ option_map (λ (x : PageState). x.entry) (page_in old q r)
     entries_of same =
-        sym (entries_at new q r) ∙ ap (λ n. get (entries_in new n) r) same ∙ ap (λ m. get m r) beside.entries ∙ ap (λ n. get (entries_in old n) r) (sym same) ∙ entries_at old q r
+        sym (entries_at new q r) ∙ ap (λ n. get (entries_in new n) r) same ∙ ap (λ m. get m r) kept ∙ ap (λ n. get (entries_in old n) r) (sym same) ∙ entries_at old q r
 
     by_pages : (o : Option PageState) → page_in new q r ≡ o → (c : Option PageState) → page_in old q r ≡ c
         → option_map (λ (x : PageState). x.entry) (page_in new q r) ≡ option_map (λ (x : PageState). x.entry) (page_in old q r) → cached_in new q r ≡ cached_in old q r
@@ -356,7 +356,7 @@ cached_same old new s beside ledger q r = by_key q s
 
 -- bytes were put in lines that can be written
 pub filled_true : (old new : State) (s address : ℕ) (bytes : List ℕ) (t : Translations Cached) → IsFilled old new s address bytes → AreTrue old t → AreTrue new t
-filled_true old new s address bytes t filled entries = true_same old new t (cached_same old new s filled.beside filled.ledger) entries
+filled_true old new s address bytes t filled entries = true_same old new t (cached_same old new s filled.beside filled.entries filled.ledger) entries
 
 -- A line of the region was written: no table changed.
 
@@ -386,15 +386,10 @@ stored_apart old new s address bytes stored apart = apart_same old new apart
     (λ other. ap (λ (x : SpaceState). x.awaiting) (stored.others q other)))
     (λ q r there. by_key q s
     (λ same.
-    ap (λ n. is_some (page_in old n r)) same ∙ sym (mapped (page_in old s r))
-    ∙ sym (ap is_some (sym (entries_at new s r) ∙ ap (λ m. get m r) stored.entries ∙ entries_at old s r)) ∙ mapped (page_in new s r)
+    ap (λ n. is_some (page_in old n r)) same ∙ sym (same_pages old new s r stored.permissions)
     ∙ sym (ap (λ n. is_some (page_in new n r)) same) ∙ there)
     (λ other.
     ap is_some (page_of old q r ∙ ap (λ (x : SpaceState). get x.pages r) (sym (stored.others q other)) ∙ sym (page_of new q r)) ∙ there))
-  where
-    mapped : (o : Option PageState) → is_some (option_map (λ (x : PageState). x.entry) o) ≡ is_some o
-    mapped None = refl
-    mapped (Some x) = refl
 
 pub stored_translated : (old new : MemoryView) (s address : ℕ) (bytes : List ℕ) (r : Result (Unit {0}) MemoryError) (t : Translations Cached)
     → Stores old new s address bytes r → AreTrue (seen.state_of new) t → AwaitApart (seen.state_of old) → AreTranslated (seen.state_of new) t

@@ -1,17 +1,21 @@
 use Rattle.std.specs.Prelude.{◌≡◌, ℕ, ◌+◌, ◌/◌, ◌%◌, ◌<◌, ◌≤◌, true, List, length, Option, Some, None, IsSome, Result, Ok, Err}
-use Rattle.std.specs.FinMap.{get}
+use Rattle.std.specs.FinMap.{FinMap, get}
+use Rattle.std.specs.Ordering.{nat_cmp}
+use Rattle.number_maps.specs.Views.{viewed}
 use Rattle.sizes.specs.declared.TheConstants.{FRAME_UNITS, LINE_BYTES, PAGE_BYTES, PAGE_LINES}
 use Rattle.ovl_io.specs.Memory.{first_denied, with_bytes}
 use Rattle.ovl_io.specs.Permissions.{writable}
+use Rattle.ovl_io.specs.declared.perms.Perms.{Perms}
+use Rattle.ledger.specs.Alike.{AreAlike}
 use Rattle.ledger.specs.Ledger.{Ledger}
 use Rattle.ledger.specs.Events.{Store, ledger_after}
 use Rattle.ledger.specs.Touched.{touched}
 use Rattle.ledger.specs.Units.{units}
 use Rattle.page_table.specs.declared.entry.PageEntry.{PageEntry}
 use Rattle.overlay_pages.specs.Lines.{lines_of_bytes}
-use Rattle.overlay_pages.specs.State.{State, base_of, books, memory_of}
+use Rattle.overlay_pages.specs.State.{PageState, State, base_of, books, memory_of}
 use Rattle.overlay_pages.specs.Changes.{IsPlaced, limit_of, units_of, whole_page}
-use Rattle.overlay_pages.specs.Calls.{AreMapped, entries_in}
+use Rattle.overlay_pages.specs.Calls.{AreMapped}
 use Rattle.overlay_pages.specs.View.{MemoryView, state_of}
 use Rattle.overlay_pages.specs.Spots.{FindsLine, IsFoundAt}
 use Rattle.overlay_pages.specs.declared.spots.FoundLine.{FoundLine}
@@ -54,18 +58,23 @@ FindsIn view space address result = FindsLine view space (address / PAGE_BYTES) 
 abbrev pub stored_books : State → ℕ → ℕ → ℕ → Ledger
 stored_books state space address count = ledger_after (Store (space_in state space).speculating space (touched address count)) (books state)
 
+-- which pages a space has, and the permissions of each
+unfoldable pub permissions_in : State → ℕ → FinMap nat_cmp Perms
+permissions_in state space = viewed (λ _ (x : PageState). x.entry.perms) (space_in state space).pages
+
 -- no byte of a store lies in a page
 abbrev pub IsUntouched : ℕ → ℕ → ℕ → Type 0
 IsUntouched address count page = (k : ℕ) → k < count → (address + k) / PAGE_BYTES ≡ page → ⊥
 
--- Bytes were stored: they stand in the memory of the space, the ledger is that after the store, and nothing else changed. The
--- base of a space that is speculating stays, and of any space that of each page in which no byte lies.
+-- Bytes were stored: they stand in the memory of the space, the ledger is that after the store up to the numbers of origins, and
+-- which pages there are and their permissions are as before, as is all else. The base of a space that is speculating stays, and
+-- of any space that of each page in which no byte lies.
 pub record IsStored (old new : State) (space address : ℕ) (bytes : List ℕ) : Type 0 where
   pub memory : memory_of new space ≡ with_bytes (memory_of old space) address bytes
-  pub ledger : books new ≡ stored_books old space address (length bytes)
+  pub ledger : AreAlike (books new) (stored_books old space address (length bytes))
   pub base : (space_in old space).speculating ≡ true → base_of new space ≡ base_of old space
   pub bases : (page : ℕ) → IsUntouched address (length bytes) page → get (base_of new space) page ≡ get (base_of old space) page
-  pub entries : entries_in new space ≡ entries_in old space
+  pub permissions : permissions_in new space ≡ permissions_in old space
   pub awaiting : (space_in new space).awaiting ≡ (space_in old space).awaiting
   pub mark : (space_in new space).speculating ≡ (space_in old space).speculating
   pub others : (q : ℕ) → (q ≡ space → ⊥) → space_in new q ≡ space_in old q

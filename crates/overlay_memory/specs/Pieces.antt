@@ -9,7 +9,7 @@ use Rattle.overlay_pages.specs.Changes.{is_writable}
 use Rattle.overlay_pages.specs.Calls.{entries_in}
 use Rattle.overlay_pages.specs.View.{IsJoined, MemoryView, state_of}
 use Rattle.overlay_pages.specs.declared.spots.FoundLine.{FoundLine}
-use Rattle.overlay_memory.specs.Access.{IsFoundIn, IsUntouched}
+use Rattle.overlay_memory.specs.Access.{IsFoundIn, IsUntouched, permissions_in}
 use Rattle.overlay_memory.specs.declared.error.MemoryError.{MemoryError}
 use Rattle.overlay_memory.specs.declared.error.MemoryError.TheVariants.{Unmapped, Forbidden, Full}
 use Rattle.overlay_memory.specs.declared.error.Came.{Came}
@@ -68,9 +68,10 @@ abbrev pub AreWritable : State → ℕ → ℕ → ℕ → ℕ → Type 0
 AreWritable state space page at count =
     (line : ℕ) → LINE_BYTES * line < at + count → at < LINE_BYTES * line + LINE_BYTES → is_writable state space page line ≡ true
 
--- Nothing but lines changed: the entries of a space, what awaits, its mark, all other spaces, and the frames are as before.
+-- Nothing but lines and frames of pages changed: which pages a space has and their permissions, what awaits, its mark, all other
+-- spaces, and how many frames there are, are as before.
 pub record AreBeside (old new : State) (space : ℕ) : Type 0 where
-  pub entries : entries_in new space ≡ entries_in old space
+  pub permissions : permissions_in new space ≡ permissions_in old space
   pub awaiting : (space_in new space).awaiting ≡ (space_in old space).awaiting
   pub mark : (space_in new space).speculating ≡ (space_in old space).speculating
   pub others : (q : ℕ) → (q ≡ space → ⊥) → space_in new q ≡ space_in old q
@@ -78,10 +79,11 @@ pub record AreBeside (old new : State) (space : ℕ) : Type 0 where
   pub frames : new.frames ≡ old.frames
   pub zero_frame : new.zero_frame ≡ old.zero_frame
 
--- bytes were put in lines that can be written, which changes no ledger
+-- bytes were put in lines that can be written, which changes no entry and no ledger
 pub record IsFilled (old new : State) (space address : ℕ) (bytes : List ℕ) : Type 0 where
   pub memory : memory_of new space ≡ with_bytes (memory_of old space) address bytes
   pub ledger : books new ≡ books old
+  pub entries : entries_in new space ≡ entries_in old space
   pub base : (space_in old space).speculating ≡ true → base_of new space ≡ base_of old space
   pub bases : (page : ℕ) → IsUntouched address (length bytes) page → map.get (base_of new space) page ≡ map.get (base_of old space) page
   pub writable : (page line : ℕ) → is_writable new space page line ≡ is_writable old space page line

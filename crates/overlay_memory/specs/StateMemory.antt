@@ -12,6 +12,7 @@ use Rattle.ledger.specs.PlaceLaws.{put_again}
 use Rattle.overlay_pages.specs.State.{PageState, SpaceState, State, base_of, base_page, books, held_page, memory_of, seen_page}
 use Rattle.overlay_pages.specs.Changes.{is_writable, writes_frame}
 use Rattle.overlay_pages.specs.Calls.{entries_in}
+use Rattle.overlay_memory.specs.Access.{permissions_in}
 use Rattle.overlay_memory.specs.Pieces.{AreBeside}
 use Rattle.space_maps.specs.Books.{books_page, books_put_page}
 use Rattle.space_maps.specs.Laws.{page_of, space_beside, space_put, there_space}
@@ -67,6 +68,15 @@ pub entries_kept : (v : State) (s p : ℕ) (x y : PageState) → page_in v s p �
 unfolding entries_in
 entries_kept v s p x y there same = seen_kept (λ x. x.entry) v s p x y there same
 
+pub permissions_at : (v : State) (s p : ℕ) → get (permissions_in v s) p ≡ option_map (λ (x : PageState). x.entry.perms) (page_in v s p)
+unfolding permissions_in
+permissions_at v s p = seen_at (λ x. x.entry.perms) v s p
+
+permissions_kept : (v : State) (s p : ℕ) (x y : PageState) → page_in v s p ≡ Some y → x.entry.perms ≡ y.entry.perms
+    → permissions_in (put_page v s p x) s ≡ permissions_in v s
+unfolding permissions_in
+permissions_kept v s p x y there same = seen_kept (λ x. x.entry.perms) v s p x y there same
+
 -- a page with the same entry and the same own lines changes no ledger
 pub books_kept : (v : State) (s p : ℕ) (x y : PageState) → page_in v s p ≡ Some y → x.entry ≡ y.entry → x.own ≡ y.own → books (put_page v s p x) ≡ books v
 books_kept v s p x y there entry own =
@@ -112,9 +122,9 @@ zero_put : (v : State) (s p : ℕ) (x : PageState) → (put_page v s p x).zero_f
 unfolding put_page put_space
 zero_put v s p x = refl
 
-pub beside_put : (v : State) (s p : ℕ) (x y : PageState) → page_in v s p ≡ Some y → x.entry ≡ y.entry → AreBeside v (put_page v s p x) s
+pub beside_put : (v : State) (s p : ℕ) (x y : PageState) → page_in v s p ≡ Some y → x.entry.perms ≡ y.entry.perms → AreBeside v (put_page v s p x) s
 beside_put v s p x y there same = record {
-  entries = entries_kept v s p x y there same;
+  permissions = permissions_kept v s p x y there same;
   awaiting = awaiting_put v s p x;
   mark = mark_put v s p x;
   others = others_put v s p x;
@@ -124,11 +134,11 @@ beside_put v s p x y there same = record {
 }
 
 pub beside_same : (v : State) (s : ℕ) → AreBeside v v s
-beside_same v s = record { entries = refl; awaiting = refl; mark = refl; others = λ q other. refl; spaces = λ q. refl; frames = refl; zero_frame = refl }
+beside_same v s = record { permissions = refl; awaiting = refl; mark = refl; others = λ q other. refl; spaces = λ q. refl; frames = refl; zero_frame = refl }
 
 pub beside_both : (a b c : State) (s : ℕ) → AreBeside a b s → AreBeside b c s → AreBeside a c s
 beside_both a b c s one two = record {
-  entries = two.entries ∙ one.entries;
+  permissions = two.permissions ∙ one.permissions;
   awaiting = two.awaiting ∙ one.awaiting;
   mark = two.mark ∙ one.mark;
   others = λ q other. two.others q other ∙ one.others q other;
@@ -137,14 +147,19 @@ beside_both a b c s one two = record {
   zero_frame = two.zero_frame ∙ one.zero_frame;
 }
 
+-- where the permissions are as before, the same pages are there
+pub same_pages : (a b : State) (s p : ℕ) → permissions_in b s ≡ permissions_in a s → is_some (page_in b s p) ≡ is_some (page_in a s p)
+same_pages a b s p same =
+    sym (mapped (page_in b s p)) ∙ ap is_some (sym (permissions_at b s p) ∙ ap (λ m. get m p) same ∙ permissions_at a s p) ∙ mapped (page_in a s p)
+  where
+    mapped : (o : Option PageState) → is_some (option_map (λ (x : PageState). x.entry.perms) o) ≡ is_some o
+    mapped None = refl
+    mapped (Some x) = refl
+
 -- a page that is there still is
 pub still_there : (a b : State) (s p : ℕ) → AreBeside a b s → IsSome (page_in a s p) → IsSome (page_in b s p)
 still_there a b s p beside there =
-    sym (mapped (page_in b s p)) ∙ ap is_some (sym (entries_at b s p) ∙ ap (λ m. get m p) beside.entries ∙ entries_at a s p) ∙ mapped (page_in a s p) ∙ there
-  where
-    mapped : (o : Option PageState) → is_some (option_map (λ (x : PageState). x.entry) o) ≡ is_some o
-    mapped None = refl
-    mapped (Some x) = refl
+    same_pages a b s p beside.permissions ∙ there
 
 -- Which lines can be written.
 

@@ -1,11 +1,11 @@
 use Rattle.std.specs.Prelude.{◌≡◌, ℕ, List, Option, Some, is_some, true, None}
 use Rattle.std.specs.Option.{option_map}
-use Rattle.std.specs.FinMap.{get}
+use Rattle.std.specs.FinMap.{empty, get}
 use Rattle.overlay_pages.specs.Calls as below
 use Rattle.overlay_pages.specs.State.{PageState, State}
 use Rattle.overlay_pages.specs.View as seen
 use Rattle.overlay_pages.specs.View.{MemoryView}
-use Rattle.space_maps.specs.Spaces.{page_in, space_in}
+use Rattle.space_maps.specs.Spaces.{Spaces, page_in, space_in}
 use Rattle.translation_cache.specs.Bare.{BareTranslations, bare}
 use Rattle.translation_cache.specs.Translations.{Translations, found}
 use Rattle.translation_cache.specs.declared.cached.Cached.{Cached}
@@ -41,6 +41,10 @@ cached_in state space page = option_map cached_page (page_in state space page)
 -- each entry is true: it holds the permissions, the frame and the own lines that the tables have for its page
 abbrev pub AreTrue : State → Translations Cached → Type 0
 AreTrue state t = (space page : ℕ) (held : Cached) → found space page t ≡ Some held → cached_in state space page ≡ Some held
+
+-- no page of a space awaits being shared
+abbrev pub NoneAwaits : {P : Type 0} → Spaces P → ℕ → Type 0
+NoneAwaits state space = (space_in state space).awaiting ≡ empty
 
 -- no page that awaits is there already
 abbrev pub AwaitApart : State → Type 0

@@ -22,7 +22,7 @@ ghost use Rattle.overlay_memory.specs.Code.{IsCodeLine};
 ghost use Rattle.overlay_memory.specs.Pieces.{emptied_space};
 ghost use Rattle.overlay_memory.specs.Room.{FallsShort};
 ghost use Rattle.overlay_memory.specs.Translated.{access_at, after_access};
-ghost use Rattle.overlay_memory.specs.View.{AreTrue, state_of, translations_of, with_line_at_place};
+ghost use Rattle.overlay_memory.specs.View.{AreTrue, NoneAwaits, state_of, translations_of, with_line_at_place};
 ghost use Rattle.translation_cache.specs.Bare.{bare};
 ghost use Rattle.translation_cache.specs.Formed.{IsFormed};
 ghost use Rattle.translation_cache.specs.Translations.{flushed, no_translations, with_hits};
@@ -126,7 +126,7 @@ impl OverlayMemory {
     /// that back costs.
     pub fn drop_space(&mut self, space: u16)
         requires there { holds_space (state_of self.old) space ≡ true }
-        requires none_awaits { (space_in (state_of self.old) space).awaiting ≡ map.empty }
+        requires none_awaits { NoneAwaits (state_of self.old) space }
         ensures state { state_of self.new ≡ cut_space (state_of self.old) space }
         ensures translations { translations_of self.new ≡ flushed space (translations_of self.old) }
         ensures none { (space_in (state_of self.old) space).pages ≡ map.empty
@@ -141,7 +141,7 @@ impl OverlayMemory {
     /// Gives the pages of a space up, and not the space, whose mark stays. Takes no memory. Costs as much as `drop_space`.
     pub fn clear_space(&mut self, space: u16)
         requires there { holds_space (state_of self.old) space ≡ true }
-        requires none_awaits { (space_in (state_of self.old) space).awaiting ≡ map.empty }
+        requires none_awaits { NoneAwaits (state_of self.old) space }
         ensures state { state_of self.new ≡ emptied_space (state_of self.old) space }
         ensures translations { translations_of self.new ≡ flushed space (translations_of self.old) }
     {
@@ -154,7 +154,7 @@ impl OverlayMemory {
     /// Costs for these pages what `drop_space` costs.
     pub fn unmap(&mut self, space: u16, page: u64, n: u32)
         requires there { AreMapped (state_of self.old) space page n }
-        requires none_awaits { (space_in (state_of self.old) space).awaiting ≡ map.empty }
+        requires none_awaits { NoneAwaits (state_of self.old) space }
         ensures state { state_of self.new ≡ cut_pages (state_of self.old) space page n }
         ensures translations { translations_of self.new ≡ flushed space (translations_of self.old) }
     {
@@ -173,7 +173,7 @@ impl OverlayMemory {
         perms: Perms,
     ) -> Result<(), AllocError>
         requires there { holds_space (state_of self.old) space ≡ true }
-        requires none_awaits { (space_in (state_of self.old) space).awaiting ≡ map.empty }
+        requires none_awaits { NoneAwaits (state_of self.old) space }
         requires absent { AreAbsent (state_of self.old) space page n }
         requires low { page + n ≤ PAGE_END }
         requires few { map.len (space_in (state_of self.old) space).pages + n ≤ MOST_SPACE_PAGES }
@@ -204,7 +204,7 @@ impl OverlayMemory {
         bytes: &[u8; PAGE_BYTES],
     ) -> Result<(), SpaceError>
         requires there { holds_space (state_of self.old) space ≡ true }
-        requires none_awaits { (space_in (state_of self.old) space).awaiting ≡ map.empty }
+        requires none_awaits { NoneAwaits (state_of self.old) space }
         requires absent { page_in (state_of self.old) space page ≡ None }
         requires low { page < PAGE_END }
         requires few { map.len (space_in (state_of self.old) space).pages < MOST_SPACE_PAGES }
@@ -239,6 +239,7 @@ impl OverlayMemory {
     /// before. Takes no memory.
     pub fn write(&mut self, space: u16, address: u64, bytes: &[u8]) -> Result<(), MemoryError>
         requires there { holds_space (state_of self.old) space ≡ true }
+        requires none_awaits { NoneAwaits (state_of self.old) space }
         requires few { length bytes.now ≤ PAGE_BYTES }
         ensures stores { Stores self.old.pages self.new.pages space address bytes.now result }
         ensures kept { OnErr result (self.new ≡ self.old) }
@@ -322,6 +323,7 @@ impl OverlayMemory {
     #[inline(always)]
     pub fn store(&mut self, space: u16, address: u64, bytes: &[u8]) -> Result<(), MemoryError>
         requires there { holds_space (state_of self.old) space ≡ true }
+        requires none_awaits { NoneAwaits (state_of self.old) space }
         requires few { length bytes.now ≤ PAGE_BYTES }
         ensures stores { Stores self.old.pages self.new.pages space address bytes.now result }
         ensures translations { translations_of self.new
@@ -393,7 +395,7 @@ impl OverlayMemory {
             (λ x. 0 < length x.own) }
         requires there { IsSome (page_in (state_of self.old) space page) }
         requires shared { is_alone (books (state_of self.old)) space page ≡ false }
-        requires none_awaits { (space_in (state_of self.old) space).awaiting ≡ map.empty }
+        requires none_awaits { NoneAwaits (state_of self.old) space }
         requires room { HasCopyRoom (state_of self.old) space page }
         ensures copied { IfSome (page_in (state_of self.old) space page)
             (λ x. IsPlaced (state_of self.old) (state_of self.new) space page
@@ -462,7 +464,7 @@ impl OverlayMemory {
     /// A table with the entries of a space's pages, of which none awaits, or want of memory. Costs a step for each page.
     pub fn copy_table(&mut self, from: u16, to: u16) -> Result<PageTable, AllocError>
         requires there { holds_space (state_of self.old) from ≡ true }
-        requires none_awaits { (space_in (state_of self.old) from).awaiting ≡ map.empty }
+        requires none_awaits { NoneAwaits (state_of self.old) from }
         requires space { holds_space (state_of self.old) to ≡ true }
         ensures table { IfOk result (λ table. table.pages ≡ entries_in (state_of self.old) from) }
         ensures once { IfOk result (λ table. NamesOnce (state_of self.old).zero_frame table.pages) }
@@ -476,7 +478,7 @@ impl OverlayMemory {
     pub fn adopt_table(&mut self, to: u16, table: PageTable)
         requires there { holds_space (state_of self.old) to ≡ true }
         requires empty { (space_in (state_of self.old) to).pages ≡ map.empty }
-        requires none_awaits { (space_in (state_of self.old) to).awaiting ≡ map.empty }
+        requires none_awaits { NoneAwaits (state_of self.old) to }
         requires once { NamesOnce (state_of self.old).zero_frame table.pages }
         ensures state { state_of self.new ≡ put_awaiting (state_of self.old) to table.pages }
         ensures translations { translations_of self.new ≡ translations_of self.old }
@@ -504,7 +506,7 @@ impl OverlayMemory {
     /// The least of the `n` pages from one on that isn't there. None exactly where all are. Pages end at 2^26, and no page of the space
     /// awaits. Costs a look-up for each run of pages.
     pub fn first_absent(&self, space: u16, page: u64, n: u32) -> Option<u64>
-        requires none_awaits { (space_in (state_of self.now) space).awaiting ≡ map.empty }
+        requires none_awaits { NoneAwaits (state_of self.now) space }
         requires low { page + n ≤ PAGE_END }
         ensures { IsFirstAbsent (state_of self.now) space page n result }
     {
@@ -524,7 +526,7 @@ impl OverlayMemory {
     /// space awaits. Costs two look-ups.
     pub fn zeros_from(&self, space: u16, page: u64) -> u32
         requires there { holds_space (state_of self.now) space ≡ true }
-        requires none_awaits { (space_in (state_of self.now) space).awaiting ≡ map.empty }
+        requires none_awaits { NoneAwaits (state_of self.now) space }
         ensures zeros { AreZeros (state_of self.now) space page result }
         ensures low { 0 < result → page + result ≤ PAGE_END }
     {

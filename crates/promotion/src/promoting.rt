@@ -1,7 +1,6 @@
 ghost use Rattle.std.specs.Prelude.{◌≡◌, ◌<◌, ◌^◌, false, true, IsSome, OnOk, is_some};
-ghost use Rattle.std.specs.FinMap as map;
 ghost use Rattle.overlay_memory.specs.Translated.{KeepsOtherTranslations};
-ghost use Rattle.overlay_memory.specs.View.{state_of, translations_of};
+ghost use Rattle.overlay_memory.specs.View.{NoneAwaits, state_of, translations_of};
 ghost use Rattle.space_maps.specs.Spaces.{holds_space, page_in, space_in};
 ghost use Rattle.translation_cache.specs.Translations.{flushed};
 ghost use Rattle.promotion.specs.Promoted.{Promotes, PromotesAll, SettlesPage};
@@ -24,7 +23,7 @@ fn has_page(mem: &OverlayMemory, space: u16, page: u64) -> bool
 // Settles a page that is there.
 fn settle_page(mem: &mut OverlayMemory, space: u16, page: u64) -> Result<(), Shortage>
     requires there { IsSome (page_in (state_of mem.old) space page) }
-    requires none_awaits { (space_in (state_of mem.old) space).awaiting ≡ map.empty }
+    requires none_awaits { NoneAwaits (state_of mem.old) space }
     ensures settles { SettlesPage mem.old mem.new space page result }
     ensures lists { KeepsOtherTranslations space mem.old mem.new }
 {
@@ -62,7 +61,7 @@ fn forget_translations(mem: &mut OverlayMemory, space: u16)
 /// the page.
 pub fn promote(mem: &mut OverlayMemory, space: u16, page: u64) -> Result<(), PromoteError>
     requires there { holds_space (state_of mem.old) space ≡ true }
-    requires none_awaits { (space_in (state_of mem.old) space).awaiting ≡ map.empty }
+    requires none_awaits { NoneAwaits (state_of mem.old) space }
     requires low { page < 2 ^ 52 }
     ensures promotes { Promotes mem.old mem.new space page result }
     ensures translations { OnOk result
@@ -89,7 +88,7 @@ pub fn promote(mem: &mut OverlayMemory, space: u16, page: u64) -> Result<(), Pro
 /// no memory. Costs a few look-ups for each page with own lines, a copy of each own line, and a page for each new frame.
 pub fn promote_all(mem: &mut OverlayMemory, space: u16) -> Result<(), PromoteError>
     requires there { holds_space (state_of mem.old) space ≡ true }
-    requires none_awaits { (space_in (state_of mem.old) space).awaiting ≡ map.empty }
+    requires none_awaits { NoneAwaits (state_of mem.old) space }
     ensures promotes { PromotesAll mem.old mem.new space result }
     ensures translations { OnOk result
         (translations_of mem.new ≡ flushed space (translations_of mem.old)) }

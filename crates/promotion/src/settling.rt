@@ -1,13 +1,12 @@
 //! Settling: each page with own lines gets them into its frame where it is alone, else into a new one.
 
 ghost use Rattle.std.specs.Prelude.{◌≡◌, ◌<◌, true, IsSome};
-ghost use Rattle.std.specs.FinMap as map;
 ghost use Rattle.sizes.specs.declared.TheConstants.{PAGE_END};
 ghost use Rattle.ledger.specs.Events.{Settle};
-ghost use Rattle.overlay_memory.specs.View.{state_of};
+ghost use Rattle.overlay_memory.specs.View.{NoneAwaits, state_of};
 ghost use Rattle.overlay_memory.specs.Room.{FitsAfter};
 ghost use Rattle.overlay_memory.specs.Translated.{KeepsOtherTranslations};
-ghost use Rattle.space_maps.specs.Spaces.{holds_space, page_in, space_in};
+ghost use Rattle.space_maps.specs.Spaces.{holds_space, page_in};
 ghost use Rattle.promotion.specs.Settled.{CanCopyOwn, HasCommittedAlone, HasSettled, IsCopied, NoneAlone, Settles, with_committed};
 
 use crate::units::{see_apart, units_settled};
@@ -47,7 +46,7 @@ pub fn commit_alone(mem: &mut OverlayMemory, space: u16)
 // A page gets a new frame, where it has own lines.
 fn copy_one(mem: &mut OverlayMemory, space: u16, page: u64)
     requires there { IsSome (page_in (state_of mem.old) space page) }
-    requires none_awaits { (space_in (state_of mem.old) space).awaiting ≡ map.empty }
+    requires none_awaits { NoneAwaits (state_of mem.old) space }
     requires fits { CanCopyOwn (state_of mem.old) space page }
     ensures copied { IsCopied (state_of mem.old) (state_of mem.new) space page }
     ensures lists { KeepsOtherTranslations space mem.old mem.new }
@@ -63,7 +62,7 @@ fn copy_one(mem: &mut OverlayMemory, space: u16, page: u64)
 // after the last one are there.
 fn copy_overlaid(mem: &mut OverlayMemory, space: u16)
     requires there { holds_space (state_of mem.old) space ≡ true }
-    requires none_awaits { (space_in (state_of mem.old) space).awaiting ≡ map.empty }
+    requires none_awaits { NoneAwaits (state_of mem.old) space }
     requires shared { NoneAlone (state_of mem.old) space }
     requires fits { FitsAfter (Settle space) (state_of mem.old) }
     ensures settled { HasSettled (state_of mem.old) (state_of mem.new) space }
@@ -84,7 +83,7 @@ fn copy_overlaid(mem: &mut OverlayMemory, space: u16)
 /// page for each new frame.
 pub fn settle(mem: &mut OverlayMemory, space: u16) -> Result<(), Shortage>
     requires there { holds_space (state_of mem.old) space ≡ true }
-    requires none_awaits { (space_in (state_of mem.old) space).awaiting ≡ map.empty }
+    requires none_awaits { NoneAwaits (state_of mem.old) space }
     ensures settles { Settles mem.old mem.new space result }
     ensures lists { KeepsOtherTranslations space mem.old mem.new }
 {

@@ -1,9 +1,8 @@
 //! Start, commit and discard.
 
 ghost use Rattle.std.specs.Prelude.{◌≡◌, OnOk, true};
-ghost use Rattle.std.specs.FinMap as map;
-ghost use Rattle.overlay_memory.specs.View.{state_of, translations_of};
-ghost use Rattle.space_maps.specs.Spaces.{holds_space, space_in};
+ghost use Rattle.overlay_memory.specs.View.{NoneAwaits, state_of, translations_of};
+ghost use Rattle.space_maps.specs.Spaces.{holds_space};
 ghost use Rattle.translation_cache.specs.Translations.{flushed};
 ghost use Rattle.speculation.specs.Speculated.{Commits, Discards, Starts};
 
@@ -18,7 +17,7 @@ use promotion::{commit_alone, settle};
 /// look-ups for each page with own lines, a copy of each own line, and a page for each new frame.
 pub fn start(mem: &mut OverlayMemory, space: u16) -> Result<(), SpeculationError>
     requires there { holds_space (state_of mem.old) space ≡ true }
-    requires none_awaits { (space_in (state_of mem.old) space).awaiting ≡ map.empty }
+    requires none_awaits { NoneAwaits (state_of mem.old) space }
     ensures starts { Starts mem.old mem.new space result }
     ensures translations { OnOk result
         (translations_of mem.new ≡ flushed space (translations_of mem.old)) }

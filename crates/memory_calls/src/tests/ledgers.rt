@@ -1,8 +1,7 @@
 ghost use Rattle.std.specs.Prelude.{◌≡◌, ℕ, ◌+◌, ◌≤◌, IsTrue, OnOk};
-ghost use Rattle.std.specs.FinMap as map;
 ghost use Rattle.sizes.specs.declared.TheConstants.{PAGE_END};
 ghost use Rattle.space_ledger.specs.Calls.{ArePagesFree};
-ghost use Rattle.space_maps.specs.Spaces.{space_in};
+ghost use Rattle.overlay_memory.specs.View.{NoneAwaits};
 
 use ovl_io::Perms;
 use space_ledger::{SpaceLedger, class_of};
@@ -22,8 +21,8 @@ fn is_free(ledger: &SpaceLedger, space: u16, from: u64, n: u32) -> bool
 
 // Maps 16 pages of space 1, of which no page awaits, on the zero frame.
 fn map_zeros(rt: &impl Abort, ledger: &mut SpaceLedger) -> Result<(), Fail>
-    requires { (q : ℕ) → (space_in ledger.old q).awaiting ≡ map.empty }
-    ensures { OnOk result ((q : ℕ) → (space_in ledger.new q).awaiting ≡ map.empty) }
+    requires { (q : ℕ) → NoneAwaits ledger.old q }
+    ensures { OnOk result ((q : ℕ) → NoneAwaits ledger.new q) }
 {
     assert!(rt; ledger.has_space(1));
     assert!(rt; ledger.pages(1) < 1000 && is_free(ledger, 1, 100, 16));
@@ -33,7 +32,7 @@ fn map_zeros(rt: &impl Abort, ledger: &mut SpaceLedger) -> Result<(), Fail>
 
 // They are there, and a copy of the table has as many.
 fn assert_zeros(rt: &impl Abort, ledger: &SpaceLedger) -> Result<(), Fail>
-    requires { (q : ℕ) → (space_in ledger.now q).awaiting ≡ map.empty }
+    requires { (q : ℕ) → NoneAwaits ledger.now q }
 {
     assert!(rt; ledger.has_space(1));
     assert_eq!(rt; ledger.zeros_from(1, 100), 16);

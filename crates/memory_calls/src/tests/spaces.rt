@@ -29,10 +29,8 @@ pub(super) struct Spaces {
 }
 
 impl Model for Spaces {
-    ghost use Rattle.std.specs.Prelude.{◌≡◌, ℕ};
-    ghost use Rattle.std.specs.FinMap as map;
-    ghost use Rattle.space_maps.specs.Spaces.{space_in};
-    ghost use Rattle.overlay_memory.specs.View.{TranslatedView, state_of};
+    ghost use Rattle.std.specs.Prelude.{ℕ};
+    ghost use Rattle.overlay_memory.specs.View.{NoneAwaits, TranslatedView, state_of};
     ghost use Rattle.overlay_memory.specs.Codes.{memory_code};
 
     ghost Value = { TranslatedView };
@@ -41,7 +39,7 @@ impl Model for Spaces {
 
     ghost view = { λ m. m.memory };
 
-    ghost invariant = { λ m. (q : ℕ) → (space_in (state_of m.memory) q).awaiting ≡ map.empty };
+    ghost invariant = { λ m. (q : ℕ) → NoneAwaits (state_of m.memory) q };
 }
 
 impl Spaces {

@@ -1,6 +1,8 @@
 use Rattle.std.proofs.Common.{sym, ap, ◌∙◌}
 use Rattle.machine_core.specs.Executions.{all_executed, last_outcome, steps_of, stops_in}
 use Rattle.machine_core.specs.Kept.{machine_of}
+use Rattle.machine_core.specs.Laws.{like_came, like_executions, like_steps}
+use Rattle.machine_core.specs.Machine.{wholes}
 use Rattle.machine_core.proofs.Listed.{runs_put}
 use Rattle.machine_core.proofs.Machines.{changed, guest_is, none_runs, state_is}
 use Rattle.machine_core.proofs.keeping.execute_in.Goals as goal
@@ -12,21 +14,26 @@ pub execute_up_to-came-requires-clause-runs : goal.execute_up_to-came-requires-c
 execute_up_to-came-requires-clause-runs c =
     state_is (machine_of c.args.memory.now c.args.processes.now) c.args.p c.in-Some.process.now (sym c.in-Some.ensures.value) c.requires.runs
 
-pub returns-clause-steps : goal.returns-clause-steps
-returns-clause-steps c =
-    let is = guest_is (machine_of c.args.memory.now c.args.processes.now) c.args.p c.in-Some.process.now (sym c.in-Some.ensures.value) in
-    c.execute_up_to-came.ensures.steps ∙ sym (ap (steps_of (stops_in c.args.stops) c.args.p c.args.most) is)
+pub returns-clause-counts : goal.returns-clause-counts
+returns-clause-counts c state stands =
+    let old = machine_of c.args.memory.now c.args.processes.now in
+    c.execute_up_to-came.ensures.last.steps
+    ∙ sym (ap (steps_of (stops_in c.args.stops) c.args.p c.args.most) (guest_is old c.args.p c.in-Some.process.now (sym c.in-Some.ensures.value)))
+    ∙ like_steps c.args.p (wholes old) state stands (stops_in c.args.stops) c.args.most
 
-pub returns-clause-outcome : goal.returns-clause-outcome
-returns-clause-outcome c =
-    let is = guest_is (machine_of c.args.memory.now c.args.processes.now) c.args.p c.in-Some.process.now (sym c.in-Some.ensures.value) in
-    c.execute_up_to-came.ensures.outcome ∙ sym (ap (last_outcome (stops_in c.args.stops) c.args.p c.args.most) is)
+pub returns-clause-answers : goal.returns-clause-answers
+returns-clause-answers c state stands =
+    let old = machine_of c.args.memory.now c.args.processes.now in
+    c.execute_up_to-came.ensures.last.outcome_is
+    ∙ sym (ap (last_outcome (stops_in c.args.stops) c.args.p c.args.most) (guest_is old c.args.p c.in-Some.process.now (sym c.in-Some.ensures.value)))
+    ∙ like_came c.args.p (wholes old) state stands (stops_in c.args.stops) c.args.most
 
 pub returns-clause-changed : goal.returns-clause-changed
 returns-clause-changed c =
     let done = c.execute_up_to-came.ensures in
-    changed (all_executed (stops_in c.args.stops) c.args.p c.args.most) c.args.p (machine_of c.args.memory.now c.args.processes.now) c.execute_up_to-came.new.memory
-    c.in-Some.process.now c.execute_up_to-came.new.process (sym c.in-Some.ensures.value) done.after done.saved done.beside
+    changed (all_executed (stops_in c.args.stops) c.args.p c.args.most)
+    (λ g h like. (like_executions (stops_in c.args.stops) c.args.p c.args.most g h like).after) c.args.p (machine_of c.args.memory.now c.args.processes.now) c.execute_up_to-came.new.memory
+    c.in-Some.process.now c.execute_up_to-came.new.process (sym c.in-Some.ensures.value) done.last.after_is done.saved done.beside
 
 pub returns-clause-runs : goal.returns-clause-runs
 returns-clause-runs c = c.is_running.ensures ∙ sym (runs_put c.args.processes.now c.args.p c.execute_up_to-came.new.process)

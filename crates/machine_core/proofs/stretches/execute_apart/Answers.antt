@@ -3,7 +3,7 @@ use Rattle.machine_core.specs.Ahead.{guest_ahead}
 use Rattle.machine_core.specs.Executions.{Comes}
 use Rattle.machine_core.specs.Held.{Makes}
 use Rattle.machine_core.specs.Kept.{guest_lent}
-use Rattle.machine_core.specs.Turns.{state_left}
+use Rattle.machine_core.specs.Turns.{AreLikeGuests, executed, state_left}
 use Rattle.machine_core.specs.declared.hand.Hand.{Hand}
 use Rattle.machine_core.specs.declared.process.Process.{Process}
 use Rattle.machine_core.proofs.Owing.{owing}
@@ -18,8 +18,9 @@ returns c =
     let k = c.args.hand.now.owed in
     let all = owing k k old.regs.pc view came.new.mem old came.new.regs came.result came.ensures.done c.requires.runs (Makes.AllAsked refl came.ensures.made) in
     let lost = c.lose.ensures in
-    let moved = ap (λ (h : Hand). guest_ahead h.owed (guest_lent came.new.mem c.note.new.process)) lost
-    ∙ ap (λ (q : Process). guest_ahead k (guest_lent came.new.mem q)) c.note.ensures ∙ all.after_is in
+    let next = executed view.space (guest_ahead k (guest_lent view old)) in
+    let moved = subst (λ (h : Hand). AreLikeGuests (guest_ahead h.owed (guest_lent came.new.mem c.note.new.process)) next) (sym lost)
+    (subst (λ (q : Process). AreLikeGuests (guest_ahead k (guest_lent came.new.mem q)) next) (sym c.note.ensures) all.after_is) in
     record {
       loan = all.loan;
       space = all.space;

@@ -2,6 +2,7 @@ use Rattle.std.proofs.Common.{ℕ, ◌+◌, ap, subst, sym, ◌∙◌}
 use Rattle.machine_core.specs.Ahead.{guest_ahead}
 use Rattle.machine_core.specs.Held.{Keeps}
 use Rattle.machine_core.specs.Kept.{guest_lent}
+use Rattle.machine_core.specs.Turns.{AreLikeGuests, executed}
 use Rattle.machine_core.specs.declared.process.Process.{Process}
 use Rattle.machine_core.proofs.Owing.{owing}
 use Rattle.machine_core.proofs.stretches.execute_word.Goals as goal
@@ -21,7 +22,8 @@ returns c =
       loan = one.loan;
       space = one.space;
       outcome = λ n. (all n).outcome_is;
-      after = λ n. ap (λ (q : Process). guest_ahead (n + 1) (guest_lent came.new.view q)) c.note.ensures ∙ (all n).after_is;
+      after = λ n. subst (λ (q : Process). AreLikeGuests (guest_ahead (n + 1) (guest_lent came.new.view q)) (executed view.space (guest_ahead n (guest_lent view old))))
+          (sym c.note.ensures) (all n).after_is;
       saved = ap (λ (q : Process). q.saved) c.note.ensures;
       beside = one.beside;
     }

@@ -1,18 +1,29 @@
 use Rattle.std.proofs.Common.{◌≡◌, ◌+◌, ◌-◌, ◌/◌, ◌%◌, ◌<◌, ◌≤◌, length, take, ap, refl, subst, sym, ◌∙◌, arith}
 use Rattle.std.proofs.lemmas.Bool.Decides.{nat_tests}
-use Rattle.std.proofs.lemmas.List.{length-drop}
+use Rattle.std.proofs.lemmas.List.{length-drop, length-take-le}
 use Rattle.sizes.specs.declared.TheConstants.{PAGE_BYTES}
 use Rattle.decoded_lines.specs.declared.TheConstants.{LINE_WORDS}
 use Rattle.machine_core.specs.Access.{spaces_lent}
 use Rattle.machine_core.specs.Ahead.{guest_ahead}
-use Rattle.machine_core.specs.Executions.{Comes, after_steps, executions, resumed, steps_in, stops_in}
+use Rattle.machine_core.specs.Executions.{AreLikeExecutions, Comes, after_steps, executions, resumed, steps_in, stops_in}
 use Rattle.machine_core.specs.Held.{IsLeft, Keeps}
 use Rattle.machine_core.specs.Kept.{IsBeside, guest_lent}
 use Rattle.machine_core.specs.declared.hand.Course.{Course}
 use Rattle.machine_core.specs.declared.hand.Hand.{Hand}
-use Rattle.machine_core.proofs.Runs.{AreRun, both_beside, ends, ends_running, goes_by, goes_on, next_word, page_now, rest_of, same_lines}
+use Rattle.machine_core.proofs.Runs.{AreRun, begun_run, both_beside, ends, ends_running, goes_by, goes_on, next_word, page_now, rest_of, same_lines}
 use Rattle.machine_core.proofs.Stepping.{is_so_far, so_far}
 use Rattle.machine_core.proofs.stretches.run.Goals as goal
+
+pub running-init : goal.running-init
+running-init c =
+    let f = c.count_from-count.ensures.few in
+    let m = c.min.ensures in
+    let count = length-take-le c.count_from-count.result c.words_from-words.result.now (omega (arith, f, m)) in
+    record {
+      so = begun_run (stops_in c.args.stops) c.args.lines.now c.args.view.now c.args.process.now c.args.hand.now c.args.most c.pc-pc.result _ _
+          (omega (arith, count)) c.pc-pc.ensures c.requires.runs c.requires.ready c.requires.taken;
+      within = omega (arith, count);
+    }
 
 pub running-preserved : goal.running-preserved
 running-preserved c =
@@ -112,14 +123,15 @@ returns-clause-came c =
     let stops = stops_in c.args.stops in
     let few = c.count_from-count.ensures.few in
     let m = c.min.ensures in
+    let whole = executions stops c.args.view.now.space c.args.most (guest_ahead c.args.hand.now.owed (guest_lent c.args.view.now c.args.process.now)) in
     let all : n - length c.running.rest.now ≡ n = (let test = c.running-test.false in let has = c.is_empty.ensures in grind (arith, nat_tests)) in (
       omega (arith, few, m),
-      subst (λ k. executions stops c.args.view.now.space c.args.most (guest_ahead c.args.hand.now.owed (guest_lent c.args.view.now c.args.process.now))
-          ≡ after_steps k (so_far k stops c.args.view.now.space (c.args.most - k) (guest_ahead (c.args.hand.now.owed + k) (guest_lent c.running.view c.running.process)))) all so.all
-          ∙ sym (ap (after_steps n) (is_so_far stops c.args.view.now.space n (c.args.most - n)
+      subst (λ (h : Hand). AreLikeExecutions (after_steps n (resumed stops c.args.view.now.space (c.args.most - n) (guest_ahead (h.owed + n) (guest_lent c.running.view c.running.process))))
+          whole) (sym so.kept)
+          (subst (λ e. AreLikeExecutions (after_steps n e) whole) (sym (is_so_far stops c.args.view.now.space n (c.args.most - n)
           (guest_ahead (c.args.hand.now.owed + n) (guest_lent c.running.view c.running.process)) c.count_from-count.ensures.some))
-          ∙ ap (λ (h : Hand). after_steps n (resumed stops c.args.view.now.space (c.args.most - n) (guest_ahead (h.owed + n) (guest_lent c.running.view c.running.process))))
-          (sym so.kept),
+          (subst (λ k. AreLikeExecutions
+          (after_steps k (so_far k stops c.args.view.now.space (c.args.most - k) (guest_ahead (c.args.hand.now.owed + k) (guest_lent c.running.view c.running.process)))) whole) all so.all)),
     )
 
 pub returns-clause-goes : goal.returns-clause-goes

@@ -2,11 +2,11 @@ use Rattle.std.proofs.Common.{◌+◌, ◌-◌, sym, ap, subst, refl, ◌∙◌,
 use Rattle.std.specs.FinSet.{contains}
 use Rattle.machine_core.specs.Access.{spaces_lent}
 use Rattle.machine_core.specs.Ahead.{guest_ahead}
-use Rattle.machine_core.specs.Executions.{Comes, after_steps, executions, stops_in}
+use Rattle.machine_core.specs.Executions.{AreLikeExecutions, Comes, after_steps, executions, stops_in}
 use Rattle.machine_core.specs.Kept.{IsBeside, guest_lent}
 use Rattle.machine_core.proofs.Ahead.{begun}
 use Rattle.machine_core.proofs.Runs.{both_beside}
-use Rattle.machine_core.proofs.Stepping.{came_on, goes_on}
+use Rattle.machine_core.proofs.Stepping.{came_on, ends_full, goes_on}
 use Rattle.machine_core.proofs.stretches.step_owing.Goals as goal
 
 pub stepping-init : goal.stepping-init
@@ -44,8 +44,10 @@ stepping-preserved c =
       loan = came.ensures.loan ∙ so.loan;
       space = came.ensures.space ∙ so.space;
       ready = goes.ready;
-      all = came_on S p (executions S p c.args.most (guest_lent c.args.view.now c.args.process.now)) c.args.most k n now next so.all steps.1
-          ∙ ap (after_steps (k + n)) (goes_on S p (c.args.most - (k + n)) next (ap (contains S) (sym c.pc.ensures) ∙ sym c.is_stop.ensures ∙ c.if-is_stop.false));
+      all = let whole = executions S p c.args.most (guest_lent c.args.view.now c.args.process.now) in
+          subst (λ e. AreLikeExecutions (after_steps (k + n) e) whole)
+          (goes_on S p (c.args.most - (k + n)) next (ap (contains S) (sym c.pc.ensures) ∙ sym c.is_stop.ensures ∙ c.if-is_stop.false))
+          (came_on S p whole c.args.most k n now next so.all steps.1);
       running = came.ensures.running c.in-Stepped.is;
       saved = came.ensures.saved ∙ so.saved;
       few = omega (arith, owes, owed);
@@ -55,3 +57,11 @@ stepping-preserved c =
       within = omega (arith, few, turn);
       step = c.in-Stepped.is;
     }
+
+-- there are as many as there may be
+pub returns-clause-last : goal.returns-clause-last
+returns-clause-last c =
+    let p = c.args.view.now.space in
+    let now = guest_ahead c.stepping.hand.owed (guest_lent c.stepping.view c.stepping.process) in
+    ends_full (stops_in c.args.stops) p (executions (stops_in c.args.stops) p c.args.most (guest_lent c.args.view.now c.args.process.now)) c.args.most c.stepping.steps now
+    (omega (arith, c.stepping-test.false)) c.stepping.invariant.all

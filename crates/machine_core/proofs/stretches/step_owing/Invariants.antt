@@ -3,7 +3,7 @@ use Rattle.ovl_io.specs.declared.process_state.ProcessState.TheVariants.{Running
 use Rattle.rv_execute.specs.declared.outcome.Outcome.TheVariants.{Stepped}
 use Rattle.machine_core.specs.Access.{IsReadyView, spaces_lent}
 use Rattle.machine_core.specs.Ahead.{guest_ahead}
-use Rattle.machine_core.specs.Executions.{after_steps, executions, stops_in}
+use Rattle.machine_core.specs.Executions.{AreLikeExecutions, after_steps, executions, stops_in}
 use Rattle.machine_core.specs.Held.{IsInHand}
 use Rattle.machine_core.specs.Kept.{IsBeside, guest_lent}
 use Rattle.machine_core.proofs.stretches.step_owing.Given as goal
@@ -14,8 +14,9 @@ invariant-stepping l = record {
   loan : l.view.memory.ghost_name ≡ l.fn.view.memory.ghost_name;
   space : l.view.space ≡ l.fn.view.space;
   ready : IsReadyView l.view;
-  all : executions (stops_in l.stops) l.fn.view.space l.most (guest_lent l.fn.view l.fn.process)
-      ≡ after_steps l.steps (executions (stops_in l.stops) l.fn.view.space (l.most - l.steps) (guest_ahead l.hand.owed (guest_lent l.view l.process)));
+  all : AreLikeExecutions
+      (after_steps l.steps (executions (stops_in l.stops) l.fn.view.space (l.most - l.steps) (guest_ahead l.hand.owed (guest_lent l.view l.process))))
+      (executions (stops_in l.stops) l.fn.view.space l.most (guest_lent l.fn.view l.fn.process));
   running : l.process.state ≡ Running;
   saved : l.process.saved ≡ l.fn.process.saved;
   few : l.hand.owed ≤ l.steps;

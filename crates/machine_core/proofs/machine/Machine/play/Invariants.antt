@@ -1,11 +1,11 @@
-use Rattle.std.proofs.Common.{◌≡◌, ◌-◌, length, drop}
-use Rattle.machine_core.specs.Machine.{HaveSpaces, wholes}
+use Rattle.std.proofs.Common.{◌-◌, length, drop}
+use Rattle.machine_core.specs.Machine.{AreLike, HaveSpaces, wholes}
 use Rattle.machine_core.specs.Play.{run_over}
 use Rattle.machine_core.proofs.machine.Machine.play.Given as goal
 
 abbrev pub invariant-playing : goal.invariant-playing
 invariant-playing l = record {
-  run : run_over (drop l.i l.turns) (wholes l.self) ≡ run_over l.turns (wholes l.fn.self);
+  run : AreLike (run_over (drop l.i l.turns) (wholes l.self)) (run_over l.turns (wholes l.fn.self));
   spaces : HaveSpaces l.self;
 }
 
