@@ -490,6 +490,7 @@ impl Session {
     pub fn turn(&mut self, running: &mut Running) -> Option<(u16, Turn)>
         ensures turn { takes_turn running.old result running.new self.old.state self.new.state }
         ensures stands { TurnsAs (takes_turn running.old result running.new) self.old self.new }
+        ensures still { result ≡ None → self.new ≡ self.old }
         ensures others { KeepsRest self.old self.new }
     {
         next_turn(&mut self.machine, &self.breakpoints, running)
