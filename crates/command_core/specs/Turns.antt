@@ -17,7 +17,7 @@ use Rattle.command_core.specs.declared.turns.Order.{Order}
 use Rattle.command_core.specs.declared.turns.Order.TheVariants.{ByTurns, Alone}
 use Rattle.report_text.specs.declared.answer.Stop.{Stop}
 use Rattle.report_text.specs.declared.answer.Stop.TheVariants.{Limit, Idle, Ended, Break, Full}
-use Rattle.report_text.specs.Answers.{turn_text, stop_text}
+use Rattle.report_text.specs.Answers.{has_turn_line, turn_text, stop_text}
 
 -- The turns of `run` and `step`.
 
@@ -229,6 +229,10 @@ SaysThen line all others = (ran_text all ≡ line ++ ran_text others) × AreLike
 -- first, and the run has ended.
 abbrev pub Speaks : Breaks → Wholes → InRun → List ℕ → Wholes → InRun → Type 0
 Speaks breaks old running line new after = SaysThen line (left_of breaks old running) (left_of breaks new after)
+
+-- a line of one turn
+abbrev pub IsTurnLine : List ℕ → Type 0
+IsTurnLine line = (p : ℕ) × (turn : Turn) × (has_turn_line turn ≡ true) × (line ≡ turn_text p turn)
 
 abbrev pub EndsRun : Breaks → Wholes → InRun → Wholes → InRun → Type 0
 EndsRun breaks old running new after =

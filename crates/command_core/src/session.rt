@@ -16,7 +16,7 @@ ghost use Rattle.command_core.specs.Looks.{BeginsStep, CanRead, LooksAt, LooksAt
 ghost use Rattle.command_core.specs.Ample.{IsAmplyDone};
 ghost use Rattle.command_core.specs.Standing.{SessionAnswersAs, GivesAs, HoldsFor, SessionStandsFor, TurnsAs, begun_run, begun_step, ends_run, speaks, takes_turn};
 ghost use Rattle.std.specs.FinMap.{empty, get};
-ghost use Rattle.command_core.specs.Turns.{begun_by, lines_left, run_found};
+ghost use Rattle.command_core.specs.Turns.{IsTurnLine, begun_by, lines_left, run_found};
 
 use crate::checkpoints::{Checkpoints, Kept};
 use crate::forking::{fork_process, fork_refusal};
@@ -311,7 +311,8 @@ impl Session {
         }
     }
 
-    /// Moves segments until free units lie together, which nothing shows.
+    /// Moves segments until free units lie together, which nothing shows: a session has no word for blocks, and that nothing is left to
+    /// move is a clause of the call below (`settled`).
     fn compact(&mut self) -> Answer
         ensures gives { GivesChange (still_row (registry_of self.old.state)) self.old.state
             result self.new.state }
@@ -496,11 +497,13 @@ impl Session {
         next_turn(&mut self.machine, &self.breakpoints, running)
     }
 
-    /// Takes turns until one has a line, which it sets, and answers true; or until the run has ended. It is `turn` again
+    /// Takes turns until one has a line, which it sets, and answers true; or until the run has ended. The line is that turn's, and the
+    /// only one. It is `turn` again
     /// and again, without a `Turn` where nothing is to be said.
     pub fn turn_line(&mut self, running: &mut Running, line: &mut Line) -> bool
         ensures says { result ≡ true →
             speaks running.old line.new.items running.new self.old.state self.new.state }
+        ensures one { result ≡ true → IsTurnLine line.new.items }
         ensures ends { result ≡ false →
             ends_run running.old running.new self.old.state self.new.state }
         ensures stands { result ≡ true →

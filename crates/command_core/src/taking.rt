@@ -9,7 +9,7 @@ ghost use Rattle.machine_core.specs.Executions.{after_executions, came_to_last, 
 ghost use Rattle.machine_core.specs.Turns.{after_asked, after_turn, turn_asked, turn_of};
 ghost use Rattle.command_core.specs.Sessions.{KeepsFree, NoneAwaits, OwnSpaces};
 ghost use Rattle.breakpoints.specs.Breakpoints.{addresses_of};
-ghost use Rattle.command_core.specs.Turns.{EndsRun, FinishesTurn, Speaks, TakesTurn, break_among, break_of, ending, ending_by, found_before, last_break, lines_left, next_of, rest_of};
+ghost use Rattle.command_core.specs.Turns.{EndsRun, FinishesTurn, IsTurnLine, Speaks, TakesTurn, break_among, break_of, ending, ending_by, found_before, last_break, lines_left, next_of, rest_of};
 
 use crate::turns::{Order, Running};
 use breakpoints::{Addresses, Breakpoints};
@@ -95,6 +95,7 @@ fn take_turns(
     requires goes { running.old.stop ≡ None }
     ensures says { result ≡ true → Speaks breakpoints.now
         (wholes machine.old) running.old line.new.items (wholes machine.new) running.new }
+    ensures one { result ≡ true → IsTurnLine line.new.items }
     ensures quiet { result ≡ false → Speaks breakpoints.now
         (wholes machine.old) running.old [] (wholes machine.new) running.new }
     ensures goes { result ≡ false → running.new.stop ≡ None }
@@ -291,6 +292,7 @@ fn quiet_turns(
     requires goes { running.old.stop ≡ None }
     ensures says { result ≡ true → Speaks breakpoints.now
         (wholes machine.old) running.old line.new.items (wholes machine.new) running.new }
+    ensures one { result ≡ true → IsTurnLine line.new.items }
     ensures ends { result ≡ false → EndsRun breakpoints.now
         (wholes machine.old) running.old (wholes machine.new) running.new }
     ensures fewer { result ≡ true → lines_left running.new < lines_left running.old }
@@ -330,6 +332,7 @@ pub(crate) fn turns_to_line(
     requires awaits { NoneAwaits machine.old }
     ensures says { result ≡ true → Speaks breakpoints.now
         (wholes machine.old) running.old line.new.items (wholes machine.new) running.new }
+    ensures one { result ≡ true → IsTurnLine line.new.items }
     ensures ends { result ≡ false → EndsRun breakpoints.now
         (wholes machine.old) running.old (wholes machine.new) running.new }
     ensures fewer { result ≡ true → lines_left running.new < lines_left running.old }

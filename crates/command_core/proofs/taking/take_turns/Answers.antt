@@ -73,6 +73,9 @@ returns-clause-says c spoke =
     (c.count.ensures.counted ∙ ap (λ (r : InRun). run_counted turn.result c.args.p r.run) c.took_turns.ensures.took) c.turn_line.ensures.text
     (says_last c.args.breakpoints.now (wholes c.args.machine.now) c.args.p done.result.0 c.args.running.now.run done.result.1 (wholes done.new.machine) (wholes turn.new.machine) turn.result last turn.ensures.turn)
 
+pub returns-clause-one : goal.returns-clause-one
+returns-clause-one c spoke = (c.args.p, c.finish_turn-turn.result, sym c.turn_line.ensures.has ∙ spoke, c.turn_line.ensures.text)
+
 pub returns-clause-quiet : goal.returns-clause-quiet
 returns-clause-quiet c silent =
     let done = c.execute_up_to-steps in
