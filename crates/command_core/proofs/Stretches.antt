@@ -13,7 +13,7 @@ use Rattle.machine_core.specs.Executions.{Executions, executions, first_executio
 use Rattle.machine_core.specs.Laws.{turn_law}
 use Rattle.machine_core.specs.NumberLaws.{numbers_are}
 use Rattle.round_robin.specs.Turns.{after_turns_of}
-use Rattle.round_robin.specs.Laws.{goes_on_next, left_after, one_turn_more}
+use Rattle.round_robin.specs.Laws.{goes_on_next, left_after}
 use Rattle.ovl_io.specs.declared.turn.Turn.TheVariants as turn
 use Rattle.command_core.specs.declared.turns.Order.{Order}
 use Rattle.command_core.specs.declared.turns.Order.TheVariants.{ByTurns, Alone}
@@ -50,22 +50,10 @@ last_over (suc n) p = refl
 last_first : (n p : ℕ) (last : Option ℕ) → last_took (n + 1) p last ≡ last_took n p (Some p)
 last_first n p last = last_more n p last ∙ sym (last_over n p)
 
-last_last : (n p : ℕ) (last : Option ℕ) → last_took (n + 1) p last ≡ Some p
-last_last n p last = last_more n p last
-
 pub took_first : (n p : ℕ) (run : Progress) → run_took (n + 1) p run ≡ run_took n p (run_after p run)
 took_first n p run =
     let same : run.taken + (n + 1) ≡ run.taken + 1 + n = omega arith in
     λ i. record { order = order_first n p run.order i; turns = run.turns; taken = same i; last = last_first n p run.last i }
-
-order_last : (n p : ℕ) (order : Order) → order_took (n + 1) p order ≡ order_after p (order_took n p order)
-order_last n p (ByTurns turns) = ap ByTurns (one_turn_more n p turns)
-order_last n p (Alone q) = refl
-
-pub took_last : (n p : ℕ) (run : Progress) → run_took (n + 1) p run ≡ run_after p (run_took n p run)
-took_last n p run =
-    let same : run.taken + (n + 1) ≡ run.taken + n + 1 = omega arith in
-    λ i. record { order = order_last n p run.order i; turns = run.turns; taken = same i; last = last_last n p run.last i }
 
 -- what is left after one of them
 left_by : (n p : ℕ) (order : Order) (turns taken : ℕ) → n + 1 ≤ order_left p order (turns - taken) → n ≤ order_left p (order_after p order) (turns - (taken + 1))
