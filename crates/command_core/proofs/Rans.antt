@@ -118,6 +118,9 @@ speaks_by breaks old new running after counted line said none is says h =
     (subst (λ (x : InRun). SaysThen said (left_of breaks old running) (left_of breaks new x)) (sym is)
     (subst (λ (r : Ran Wholes). SaysThen said r (left_of breaks new counted)) (sym (left_all breaks old running none)) h))
 
+pub none_stopped : (after : InRun) (run : Progress) (stop : Option Stop) → after ≡ record { run = run; stop = stop } → stop ≡ None → after ≡ record { run = run; stop = None }
+none_stopped after run stop is none = is ∙ ap (λ (o : Option Stop). record { run = run; stop = o }) none
+
 -- fewer lines are left
 pub fewer_left : (old new : InRun) → old.stop ≡ None → new.stop ≡ None → new.run.turns ≡ old.run.turns → old.run.taken < new.run.taken → new.run.taken ≤ new.run.turns
     → lines_left new < lines_left old

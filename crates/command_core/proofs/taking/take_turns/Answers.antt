@@ -1,7 +1,8 @@
-use Rattle.std.proofs.Common.{Some, None, refl, ap, sym, ◌∙◌, arith}
+use Rattle.std.proofs.Common.{None, [], refl, ap, sym, ◌∙◌, arith}
 use Rattle.machine_core.specs.Machine.{wholes}
-use Rattle.command_core.specs.Turns.{InRun, run_counted}
-use Rattle.command_core.proofs.Rans.{fewer_counted, fewer_left, speaks_by}
+use Rattle.report_text.specs.Answers.{turn_text}
+use Rattle.command_core.specs.Turns.{InRun, run_counted, run_took}
+use Rattle.command_core.proofs.Rans.{fewer_counted, fewer_left, none_stopped, speaks_by}
 use Rattle.command_core.proofs.Places.{free_stays, free_then, process_there}
 use Rattle.command_core.proofs.Stretching.{all_taken, asked_runs, fits_left, goes_on, last_turn, no_line, says_last}
 use Rattle.command_core.proofs.taking.take_turns.Goals as goal
@@ -20,8 +21,9 @@ took_turns-requires c =
 pub returns-in-Stepped-clause-quiet : goal.returns-in-Stepped-clause-quiet
 returns-in-Stepped-clause-quiet c silent =
     let done = c.execute_up_to-steps in
-    let took = c.took_turns.ensures.took ∙ ap (λ s. record { run = (c.took_turns.new.self).run; stop = s }) c.requires.goes in
-    speaks_by c.args.breakpoints.now (wholes c.args.machine.now) (wholes done.new.machine) c.args.running.now c.took_turns.new.self _ _ _ c.requires.goes took refl
+    let run = run_took done.result.0 c.args.p c.args.running.now.run in
+    speaks_by c.args.breakpoints.now (wholes c.args.machine.now) (wholes done.new.machine) c.args.running.now c.took_turns.new.self (record { run = run; stop = None }) [] [] c.requires.goes
+    (none_stopped c.took_turns.new.self run c.args.running.now.stop c.took_turns.ensures.took c.requires.goes) refl
     (goes_on c.args.breakpoints.now (wholes c.args.machine.now) c.args.p c.stretch.result done.result.0 c.args.running.now.run c.requires.runs c.requires.next c.requires.unbroken c.stretch.ensures.stretch done.ensures.steps
     (wholes done.new.machine) (sym c.in-Stepped.is ∙ done.ensures.outcome) done.ensures.after)
 
@@ -69,7 +71,8 @@ returns-clause-says c spoke =
     let turn = c.finish_turn-turn in
     let last = last_turn c.args.breakpoints.now (wholes c.args.machine.now) c.args.p c.stretch.result done.result.0 c.args.running.now.run c.requires.runs c.requires.next c.requires.unbroken c.stretch.ensures.stretch done.ensures.steps
     done.result.1 (wholes done.new.machine) done.ensures.outcome c.in_default.not-Stepped done.ensures.after in
-    speaks_by c.args.breakpoints.now (wholes c.args.machine.now) (wholes turn.new.machine) c.args.running.now c.count.new.self _ c.turn_line.new.out.items _ c.requires.goes
+    speaks_by c.args.breakpoints.now (wholes c.args.machine.now) (wholes turn.new.machine) c.args.running.now c.count.new.self
+    (run_counted turn.result c.args.p (run_took done.result.0 c.args.p c.args.running.now.run)) c.turn_line.new.out.items (turn_text c.args.p turn.result) c.requires.goes
     (c.count.ensures.counted ∙ ap (λ (r : InRun). run_counted turn.result c.args.p r.run) c.took_turns.ensures.took) c.turn_line.ensures.text
     (says_last c.args.breakpoints.now (wholes c.args.machine.now) c.args.p done.result.0 c.args.running.now.run done.result.1 (wholes done.new.machine) (wholes turn.new.machine) turn.result last turn.ensures.turn)
 
@@ -82,7 +85,8 @@ returns-clause-quiet c silent =
     let turn = c.finish_turn-turn in
     let last = last_turn c.args.breakpoints.now (wholes c.args.machine.now) c.args.p c.stretch.result done.result.0 c.args.running.now.run c.requires.runs c.requires.next c.requires.unbroken c.stretch.ensures.stretch done.ensures.steps
     done.result.1 (wholes done.new.machine) done.ensures.outcome c.in_default.not-Stepped done.ensures.after in
-    speaks_by c.args.breakpoints.now (wholes c.args.machine.now) (wholes turn.new.machine) c.args.running.now c.count.new.self _ _ _ c.requires.goes
+    speaks_by c.args.breakpoints.now (wholes c.args.machine.now) (wholes turn.new.machine) c.args.running.now c.count.new.self
+    (run_counted turn.result c.args.p (run_took done.result.0 c.args.p c.args.running.now.run)) [] (turn_text c.args.p turn.result) c.requires.goes
     (c.count.ensures.counted ∙ ap (λ (r : InRun). run_counted turn.result c.args.p r.run) c.took_turns.ensures.took) (no_line c.args.p turn.result (sym c.turn_line.ensures.has ∙ silent))
     (says_last c.args.breakpoints.now (wholes c.args.machine.now) c.args.p done.result.0 c.args.running.now.run done.result.1 (wholes done.new.machine) (wholes turn.new.machine) turn.result last turn.ensures.turn)
 
