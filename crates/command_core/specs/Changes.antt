@@ -14,12 +14,12 @@ use Rattle.report_text.specs.declared.answer.Code.TheVariants.{NoProcess, Elf}
 use Rattle.report_text.specs.Answers.{HasAnswerLine}
 use Rattle.script_text.specs.declared.command.Command.{Command}
 use Rattle.script_text.specs.declared.command.Command.TheVariants as command
-use Rattle.command_core.specs.declared.overlays.OverlayChange.TheVariants.{Speculate, Commit, Discard, Promote, PromoteAll, Map, Unmap, Set}
+use Rattle.command_core.specs.declared.process_changes.ProcessChange.TheVariants.{Speculate, Commit, Discard, Promote, PromoteAll, Map, Unmap, Set}
 use Rattle.command_core.specs.State.{Registry}
 use Rattle.command_core.specs.Rows.{Row, TakesFirst, plain_row, refused_row, still_row}
 use Rattle.command_core.specs.Refusals.{by_numbers_used}
 use Rattle.command_core.specs.Copies.{draws, fork_row}
-use Rattle.command_core.specs.Overlays.{overlay_row}
+use Rattle.command_core.specs.ProcessChanges.{process_row}
 use Rattle.command_core.specs.Debugging.{break_row, poke_row, unbreak_row}
 use Rattle.command_core.specs.Checkpoints.{checkpoint_row, forget_row, on_checkpoint, restore_row}
 
@@ -59,17 +59,17 @@ change_row file (command.Fork p) = on_process p (fork_row p)
 change_row file (command.Checkpoint p name) = on_process p (checkpoint_row p name)
 change_row file (command.Restore p name) = on_process p (restore_row p name)
 change_row file (command.Forget name) = on_checkpoint name (forget_row name)
-change_row file (command.Speculate p) = on_process p (overlay_row p Speculate)
-change_row file (command.Commit p) = on_process p (overlay_row p Commit)
-change_row file (command.Discard p) = on_process p (overlay_row p Discard)
-change_row file (command.Promote p address) = on_process p (overlay_row p (Promote address))
-change_row file (command.PromoteAll p) = on_process p (overlay_row p PromoteAll)
+change_row file (command.Speculate p) = on_process p (process_row p Speculate)
+change_row file (command.Commit p) = on_process p (process_row p Commit)
+change_row file (command.Discard p) = on_process p (process_row p Discard)
+change_row file (command.Promote p address) = on_process p (process_row p (Promote address))
+change_row file (command.PromoteAll p) = on_process p (process_row p PromoteAll)
 change_row file command.Compact = still_row
-change_row file (command.Map p address n perms) = on_process p (overlay_row p (Map address n perms))
-change_row file (command.Unmap p address n) = on_process p (overlay_row p (Unmap address n))
+change_row file (command.Map p address n perms) = on_process p (process_row p (Map address n perms))
+change_row file (command.Unmap p address n) = on_process p (process_row p (Unmap address n))
 change_row file (command.Drop p) = on_process p (drop_row p)
 change_row file (command.Poke p address bytes) = on_process p (poke_row p address bytes)
-change_row file (command.Set p register value) = on_process p (overlay_row p (Set register value))
+change_row file (command.Set p register value) = on_process p (process_row p (Set register value))
 change_row file (command.Break p address) = on_process p (break_row p address)
 change_row file (command.Unbreak p address) = on_process p (unbreak_row p address)
 change_row file other = still_row

@@ -17,7 +17,7 @@ use Rattle.command_core.specs.State.{Checkpoint, Registry, process_of, whole_of}
 use Rattle.command_core.specs.Rows.{Row, TakesLast, ledger_by, plain_row, refused_row}
 use Rattle.command_core.specs.Refusals.{by_name_taken, by_no_checkpoint, by_numbers_used, by_speculating}
 use Rattle.command_core.specs.Copies.{CopyEnds}
-use Rattle.command_core.specs.Overlays.{leaves}
+use Rattle.command_core.specs.ProcessChanges.{leaves}
 
 -- Checkpoints, by name: made, restored and given up.
 

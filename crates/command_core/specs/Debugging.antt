@@ -16,7 +16,7 @@ use Rattle.report_text.specs.declared.answer.Code.TheVariants.{Forbidden, Unmapp
 use Rattle.command_core.specs.State.{Registry}
 use Rattle.command_core.specs.Rows.{MemoryTaken, Row, TakesLast, TakesNone, plain_row}
 use Rattle.command_core.specs.Refusals.{has_page}
-use Rattle.command_core.specs.Overlays.{leaves, with_pages}
+use Rattle.command_core.specs.ProcessChanges.{leaves, with_pages}
 
 -- What the debugger changes: bytes of memory, and breakpoints.
 

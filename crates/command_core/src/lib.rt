@@ -7,7 +7,7 @@
 //! - `forking`: a process under a second number
 //! - `saving`: checkpoints of processes, made and put back
 //! - `checkpoints`: what is kept of them, by name
-//! - `overlays`: what is done with the pages of a process: speculation and promotion
+//! - `process_changes`: changes of one process that is there: speculation, promotion, pages and registers
 //! - `mapping`: pages that are mapped, and that are given up
 //! - `poking`: bytes that are stored
 //! - `reading`: bytes that are looked at
@@ -18,8 +18,8 @@
 mod checkpoints;
 mod forking;
 mod mapping;
-mod overlays;
 mod poking;
+mod process_changes;
 mod reading;
 mod saving;
 mod session;

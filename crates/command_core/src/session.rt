@@ -7,7 +7,7 @@ ghost use Rattle.command_core.specs.Sessions.{KeepsRest};
 ghost use Rattle.command_core.specs.Giving.{GivesChange, WantKeeps};
 ghost use Rattle.command_core.specs.Rows.{still_row};
 ghost use Rattle.command_core.specs.Copies.{fork_row};
-ghost use Rattle.command_core.specs.Overlays.{overlay_row};
+ghost use Rattle.command_core.specs.ProcessChanges.{process_row};
 ghost use Rattle.command_core.specs.Debugging.{break_row, poke_row, unbreak_row};
 ghost use Rattle.command_core.specs.Checkpoints.{checkpoint_row, forget_row, on_checkpoint, restore_row};
 ghost use Rattle.command_core.specs.Changes.{CanBeTold, answer_of, change_row, drop_row, load_row, on_process};
@@ -20,7 +20,7 @@ ghost use Rattle.command_core.specs.Turns.{IsTurnLine, begun_by, lines_left, run
 
 use crate::checkpoints::{Checkpoints, Kept};
 use crate::forking::{fork_process, fork_refusal};
-use crate::overlays::{OverlayChange, change_overlays};
+use crate::process_changes::{ProcessChange, change_process};
 use crate::poking::poke;
 use crate::reading::{can_read, read_bytes};
 use crate::saving::{checkpoint_refusal, restore_process, save_process};
@@ -295,8 +295,8 @@ impl Session {
 
     /// Does a change to a process: a speculation begins or ends, pages are promoted, mapped or given up, or a register is set. Answers what came of it, or why
     /// it wasn't done. `Full` exactly where it isn't refused and the units after it would exceed the limit.
-    fn change_overlays(&mut self, p: u16, change: OverlayChange) -> Answer
-        ensures gives { GivesChange (on_process p (overlay_row p change) (registry_of self.old.state))
+    fn change_process(&mut self, p: u16, change: ProcessChange) -> Answer
+        ensures gives { GivesChange (on_process p (process_row p change) (registry_of self.old.state))
             self.old.state result self.new.state }
         ensures want { WantKeeps self.old result self.new }
         ensures told { CanBeTold result }
@@ -306,7 +306,7 @@ impl Session {
             None => Answer::Refused(Code::NoProcess),
             Some(process) => {
                 let process = *process;
-                change_overlays(&mut self.machine, p, process, change)
+                change_process(&mut self.machine, p, process, change)
             }
         }
     }
@@ -411,28 +411,36 @@ impl Session {
             Command::Checkpoint(p, name) => self.checkpoint(*p, name),
             Command::Restore(p, name) => self.restore(*p, name),
             Command::Forget(name) => self.forget(name),
-            Command::Speculate(p) => self.change_overlays(*p, OverlayChange::Speculate),
-            Command::Commit(p) => self.change_overlays(*p, OverlayChange::Commit),
-            Command::Discard(p) => self.change_overlays(*p, OverlayChange::Discard),
+            Command::Speculate(p) => self.change_process(*p, ProcessChange::Speculate),
+            Command::Commit(p) => self.change_process(*p, ProcessChange::Commit),
+            Command::Discard(p) => self.change_process(*p, ProcessChange::Discard),
             Command::Promote(p, address) => {
-                self.change_overlays(*p, OverlayChange::Promote(*address))
+                self.change_process(*p, ProcessChange::Promote(*address))
             }
-            Command::PromoteAll(p) => self.change_overlays(*p, OverlayChange::PromoteAll),
+            Command::PromoteAll(p) => self.change_process(*p, ProcessChange::PromoteAll),
             Command::Compact => self.compact(),
             Command::Map(p, address, n, perms) => {
-                self.change_overlays(*p, OverlayChange::Map(*address, *n, *perms))
+                self.change_process(*p, ProcessChange::Map(*address, *n, *perms))
             }
             Command::Unmap(p, address, n) => {
-                self.change_overlays(*p, OverlayChange::Unmap(*address, *n))
+                self.change_process(*p, ProcessChange::Unmap(*address, *n))
             }
             Command::Drop(p) => self.drop_process(*p),
             Command::Poke(p, address, bytes) => self.poke(*p, *address, bytes),
             Command::Set(p, register, value) => {
-                self.change_overlays(*p, OverlayChange::Set(*register, *value))
+                self.change_process(*p, ProcessChange::Set(*register, *value))
             }
             Command::Break(p, address) => self.add_breakpoint(*p, *address),
             Command::Unbreak(p, address) => self.remove_breakpoint(*p, *address),
-            _ => Answer::Done,
+            Command::Exec(_, _)
+            | Command::Load(_)
+            | Command::Run(_)
+            | Command::Step(_, _)
+            | Command::Regs(_)
+            | Command::Dump(_, _, _)
+            | Command::Disasm(_, _, _)
+            | Command::List
+            | Command::Stats => Answer::Done,
         }
     }
 
