@@ -52,7 +52,8 @@ drop_row p process registry =
       drawn = registry.drawn;
     })
 
--- The changes, a row each, with the file that a command asks for. Compaction moves segments, which no state shows. A command that isn't there changes nothing.
+-- The changes, a row each, with the file that a command asks for. Compaction moves segments, which no state shows. Commands that take
+-- turns or print have no row of their own here: as changes they do nothing.
 abbrev pub change_row : List ℕ → Command → Registry → Row
 change_row file (command.Load name) = load_row file
 change_row file (command.Fork p) = on_process p (fork_row p)
@@ -72,7 +73,14 @@ change_row file (command.Poke p address bytes) = on_process p (poke_row p addres
 change_row file (command.Set p register value) = on_process p (process_row p (Set register value))
 change_row file (command.Break p address) = on_process p (break_row p address)
 change_row file (command.Unbreak p address) = on_process p (unbreak_row p address)
-change_row file other = still_row
+change_row file (command.Exec name turns) = still_row
+change_row file (command.Run turns) = still_row
+change_row file (command.Step p turns) = still_row
+change_row file command.List = still_row
+change_row file command.Stats = still_row
+change_row file (command.Regs p) = still_row
+change_row file (command.Dump p address count) = still_row
+change_row file (command.Disasm p address words) = still_row
 
 -- what is answered where a machine doesn't load a file, or doesn't copy a space
 abbrev pub answer_of : SpaceError → Answer

@@ -39,7 +39,30 @@ asked_by (Some file) = if nat_lt MOST_FILE_BYTES (length file) then IsTooLong el
 abbrev pub asks : Command → Option (List ℕ)
 asks (Exec name turns) = Some name
 asks (Load name) = Some name
-asks other = None
+asks (command.Fork p) = None
+asks (command.Checkpoint p name) = None
+asks (command.Restore p name) = None
+asks (command.Forget name) = None
+asks (command.Speculate p) = None
+asks (command.Commit p) = None
+asks (command.Discard p) = None
+asks (command.Promote p address) = None
+asks (command.PromoteAll p) = None
+asks command.Compact = None
+asks (command.Map p address n perms) = None
+asks (command.Unmap p address n) = None
+asks (command.Drop p) = None
+asks (command.Poke p address bytes) = None
+asks (command.Set p register value) = None
+asks (command.Break p address) = None
+asks (command.Unbreak p address) = None
+asks (Run turns) = None
+asks (Step p turns) = None
+asks command.List = None
+asks command.Stats = None
+asks (command.Regs p) = None
+asks (command.Dump p address count) = None
+asks (command.Disasm p address words) = None
 
 abbrev pub asked_for : Option (List ℕ) → (List ℕ → Option (List ℕ)) → FileAsked
 asked_for None files = AsksNothing
@@ -52,11 +75,14 @@ file_asked files command = asked_for (asks command) files
 abbrev pub has_all : FileAsked → Bool
 has_all IsMissing = false
 has_all IsTooLong = false
-has_all other = true
+has_all AsksNothing = true
+has_all (HasFile file) = true
 
 abbrev pub file_in : FileAsked → List ℕ
 file_in (HasFile file) = file
-file_in other = []
+file_in AsksNothing = []
+file_in IsMissing = []
+file_in IsTooLong = []
 
 -- What a command comes to: its text, the state of a machine after it, and whether it may want memory in place of both.
 pub record Performed (S : Type 0) : Type 0 where
@@ -256,8 +282,8 @@ module _ {S : Type 0} (by : Rules S) where
   disasm_done p address words state =
       prints_of address (WORD_BYTES * words) (λ memory. disasm_text memory address words) (process_in p state) state
 
-  -- What each command comes to, with the file that it has, in turns of a quantum: turns and printed lines have a line here, all others
-  -- are changes.
+  -- What each command comes to, with the file that it has, in turns of a quantum: turns and printed lines, and the
+  -- changes, each by its row.
   abbrev pub performed_by : ℕ → List ℕ → Command → S → Performed S
   performed_by quantum file (Exec name turns) = exec_done file turns
   performed_by quantum file (Run turns) = run_done quantum turns
@@ -267,7 +293,24 @@ module _ {S : Type 0} (by : Rules S) where
   performed_by quantum file (command.Regs p) = regs_done p
   performed_by quantum file (command.Dump p address count) = dump_done p address count
   performed_by quantum file (command.Disasm p address words) = disasm_done p address words
-  performed_by quantum file other = change_told file other
+  performed_by quantum file (Load name) = change_told file (Load name)
+  performed_by quantum file (command.Fork p) = change_told file (command.Fork p)
+  performed_by quantum file (command.Checkpoint p name) = change_told file (command.Checkpoint p name)
+  performed_by quantum file (command.Restore p name) = change_told file (command.Restore p name)
+  performed_by quantum file (command.Forget name) = change_told file (command.Forget name)
+  performed_by quantum file (command.Speculate p) = change_told file (command.Speculate p)
+  performed_by quantum file (command.Commit p) = change_told file (command.Commit p)
+  performed_by quantum file (command.Discard p) = change_told file (command.Discard p)
+  performed_by quantum file (command.Promote p address) = change_told file (command.Promote p address)
+  performed_by quantum file (command.PromoteAll p) = change_told file (command.PromoteAll p)
+  performed_by quantum file command.Compact = change_told file command.Compact
+  performed_by quantum file (command.Map p address n perms) = change_told file (command.Map p address n perms)
+  performed_by quantum file (command.Unmap p address n) = change_told file (command.Unmap p address n)
+  performed_by quantum file (command.Drop p) = change_told file (command.Drop p)
+  performed_by quantum file (command.Poke p address bytes) = change_told file (command.Poke p address bytes)
+  performed_by quantum file (command.Set p register value) = change_told file (command.Set p register value)
+  performed_by quantum file (command.Break p address) = change_told file (command.Break p address)
+  performed_by quantum file (command.Unbreak p address) = change_told file (command.Unbreak p address)
 
 -- by those of the copying machine; and the same in a session
 abbrev pub performed : ℕ → List ℕ → Command → State → Performed State

@@ -397,6 +397,7 @@ impl Session {
     }
 
     /// Does a command that asks for no file, by its row.
+    #[tactic(auto, using(crate::proofs::Rows::gives_still))]
     fn do_row(&mut self, command: &Command) -> Answer
         requires asks { asks command.now ≡ None }
         requires given { IsGiven command.now }

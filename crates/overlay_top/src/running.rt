@@ -78,7 +78,30 @@ fn file_of(command: &Command) -> Option<&Bytes>
     match command {
         Command::Exec(name, _) => Some(name),
         Command::Load(name) => Some(name),
-        _ => None,
+        Command::Run(_)
+        | Command::Step(_, _)
+        | Command::List
+        | Command::Stats
+        | Command::Regs(_)
+        | Command::Dump(_, _, _)
+        | Command::Disasm(_, _, _)
+        | Command::Fork(_)
+        | Command::Checkpoint(_, _)
+        | Command::Restore(_, _)
+        | Command::Forget(_)
+        | Command::Speculate(_)
+        | Command::Commit(_)
+        | Command::Discard(_)
+        | Command::Promote(_, _)
+        | Command::PromoteAll(_)
+        | Command::Compact
+        | Command::Map(_, _, _, _)
+        | Command::Unmap(_, _, _)
+        | Command::Drop(_)
+        | Command::Poke(_, _, _)
+        | Command::Set(_, _, _)
+        | Command::Break(_, _)
+        | Command::Unbreak(_, _) => None,
     }
 }
 
