@@ -1,14 +1,16 @@
-use Rattle.std.specs.Prelude.{◌≡◌, ℕ, Bool, true, false, List, refl}
+use Rattle.std.specs.Prelude.{◌≡◌, ℕ, List, Option, Some, None, refl}
 use Rattle.script_text.specs.declared.command.Command.{Command}
 use Rattle.script_text.specs.declared.command.Command.TheVariants as command
-use Rattle.command_core.specs.Commands.{Rules, change_told, performed_by}
+use Rattle.command_core.specs.State.{State}
+use Rattle.command_core.specs.Commands.{Performed, Rules, change_told, performed_by, stats_done}
 
 -- The commands case by case: those that take turns or print, each for itself, and all others as changes, each by its row. What holds of
 -- a command by the rules of a machine, or of two machines at once, is shown case by case of this.
 
-abbrev pub prints_counts : Command → Bool
-prints_counts command.Stats = true
-prints_counts other = false
+-- what is told by the ledger
+abbrev pub ledger_done : Command → Option (State → Performed State)
+ledger_done command.Stats = Some stats_done
+ledger_done other = None
 
 pub data GoesBy {S T : Type 0} (x : Rules S) (y : Rules T) (quantum : ℕ) (file : List ℕ) : Command → Type 0 where
   ByExec : (name : List ℕ) (turns : ℕ) → GoesBy x y quantum file (command.Exec name turns)
@@ -20,7 +22,7 @@ pub data GoesBy {S T : Type 0} (x : Rules S) (y : Rules T) (quantum : ℕ) (file
   ByDump : (p address count : ℕ) → GoesBy x y quantum file (command.Dump p address count)
   ByDisasm : (p address words : ℕ) → GoesBy x y quantum file (command.Disasm p address words)
   ByChange : (c : Command) → ((state : S) → performed_by x quantum file c state ≡ change_told x file c state)
-      → ((state : T) → performed_by y quantum file c state ≡ change_told y file c state) → prints_counts c ≡ false → GoesBy x y quantum file c
+      → ((state : T) → performed_by y quantum file c state ≡ change_told y file c state) → ledger_done c ≡ None → GoesBy x y quantum file c
 
 pub goes_by : {S T : Type 0} (x : Rules S) (y : Rules T) (quantum : ℕ) (file : List ℕ) (c : Command) → GoesBy x y quantum file c
 goes_by x y quantum file (command.Exec name turns) = ByExec name turns

@@ -90,26 +90,26 @@ pub record Performed (S : Type 0) : Type 0 where
   pub after : S
   pub wants_memory : Bool
 
--- By which rules a machine does commands: what is registered in it; what a row comes to, and whether that may want memory; turns; and the
--- counts, printed.
+-- By which rules a machine does commands: what is registered in it; what a row comes to, and whether that may want memory; turns; and
+-- what only the ledger of the copying machine can tell, of which another machine knows no more than the line.
 pub record Rules (S : Type 0) : Type 0 where
   pub registry : S → Registry
   pub change : Row → S → Changed S
   pub wants : Row → S → Bool
   pub turns : Progress → S → Performed S
-  pub counts : S → Performed S
+  pub by_ledger : (State → Performed State) → S → Performed S
 
 -- the line of an answer, and the state
 abbrev pub told : {S : Type 0} → Bool → Changed S → Performed S
 told wants_memory changed = record { text = answer_text changed.answer; after = changed.after; wants_memory = wants_memory }
 
--- a text that is printed, and the state as it is
-abbrev pub text_printed : {S : Type 0} → List ℕ → S → Performed S
-text_printed text state = record { text = text; after = state; wants_memory = false }
+-- a text that is printed, where making it may want memory or not, and the state as it is
+abbrev pub text_printed : {S : Type 0} → Bool → List ℕ → S → Performed S
+text_printed wants_memory text state = record { text = text; after = state; wants_memory = wants_memory }
 
 -- nothing more
 abbrev pub no_more : {S : Type 0} → S → Performed S
-no_more state = text_printed [] state
+no_more state = text_printed false [] state
 
 -- one thing after another
 abbrev pub then_performed : {S : Type 0} → Performed S → (S → Performed S) → Performed S
@@ -145,10 +145,10 @@ unfoldable pub stats_text : State → List ℕ
 stats_text state = counts_text (counts_of state.wholes)
 
 abbrev pub stats_done : State → Performed State
-stats_done state = text_printed (stats_text state) state
+stats_done state = text_printed false (stats_text state) state
 
 abbrev pub rules : Rules State
-rules = record { registry = registry_of; change = change_by; wants = may_want_memory; turns = takes_turns; counts = stats_done }
+rules = record { registry = registry_of; change = change_by; wants = may_want_memory; turns = takes_turns; by_ledger = λ done. done }
 
 -- a process that was just loaded is there, and runs
 abbrev pub RunsLoaded : Answer → State → Type 0
@@ -194,7 +194,7 @@ regs_text p process = regs_head p process ++ registers_text process.registers
 -- the registers of a process, which has to be there
 abbrev pub regs_of : {S : Type 0} → ℕ → Option Process → S → Performed S
 regs_of p None state = told false (refuses NoProcess state)
-regs_of p (Some process) state = text_printed (regs_text p process) state
+regs_of p (Some process) state = text_printed false (regs_text p process) state
 
 -- the lines of bytes of a memory from an address on, up to 16 a line; and those of words, as instructions
 abbrev pub dump_row : Memory → ℕ → ℕ → List ℕ
@@ -217,7 +217,7 @@ disasm_text memory address (suc words) = disasm_row memory address ++ disasm_tex
 
 -- what is printed of n bytes of a process from an address on: it has to be there, and so does each byte, whatever the permissions
 abbrev pub prints_read : {S : Type 0} → (Memory → List ℕ) → Memory → Option ℕ → S → Performed S
-prints_read text memory None state = text_printed (text memory) state
+prints_read text memory None state = text_printed false (text memory) state
 prints_read text memory (Some at) state = told false (refuses (Unmapped at) state)
 
 abbrev pub prints_of : {S : Type 0} → ℕ → ℕ → (Memory → List ℕ) → Option Process → S → Performed S
@@ -270,7 +270,7 @@ module _ {S : Type 0} (by : Rules S) where
 
   -- what is printed
   abbrev pub list_done : S → Performed S
-  list_done state = text_printed (list_text (by.registry state)) state
+  list_done state = text_printed false (list_text (by.registry state)) state
 
   abbrev pub regs_done : ℕ → S → Performed S
   regs_done p state = regs_of p (process_in p state) state
@@ -289,7 +289,7 @@ module _ {S : Type 0} (by : Rules S) where
   performed_by quantum file (Run turns) = run_done quantum turns
   performed_by quantum file (Step p turns) = step_done p turns
   performed_by quantum file command.List = list_done
-  performed_by quantum file command.Stats = by.counts
+  performed_by quantum file command.Stats = by.by_ledger stats_done
   performed_by quantum file (command.Regs p) = regs_done p
   performed_by quantum file (command.Dump p address count) = dump_done p address count
   performed_by quantum file (command.Disasm p address words) = disasm_done p address words

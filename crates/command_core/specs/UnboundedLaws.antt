@@ -26,7 +26,7 @@ use Rattle.command_core.specs.Rows.{Changed, MemoryTaken, Row, TakesFirst, Takes
 use Rattle.command_core.specs.Changes.{change_row, load_row}
 use Rattle.command_core.specs.Turns.{Progress, Ran, begun_alone, by_turns, event_then, first_event, last_break, next_of, ran, ran_by, ran_from, ran_text, rest_of, run_after, stopped, turns_by, unless_broken}
 use Rattle.command_core.specs.Commands.{Performed, change_told, checkpoint_text, checkpoints_text, disasm_text, dump_from, dump_text, exec_done, exec_turns, list_head, list_text, performed, performed_by, text_printed, prints_of, prints_read, process_text, processes_text, registers_from, regs_head, regs_of, regs_text, row_told, rules, stats_text, steps, takes_turns, told}
-use Rattle.command_core.specs.CommandCases.{GoesBy, ByExec, ByRun, ByStep, ByList, ByStats, ByRegs, ByDump, ByDisasm, ByChange, goes_by, prints_counts}
+use Rattle.command_core.specs.CommandCases.{GoesBy, ByExec, ByRun, ByStep, ByList, ByStats, ByRegs, ByDump, ByDisasm, ByChange, goes_by, ledger_done}
 use Rattle.command_core.specs.Unbounded.{Unbounded, change_unbounded, does_row, after_step_of, step_among, takes_unbounded, unbounded, unbounded_turns, wants_unbounded}
 
 -- As long as no line says `full`, the copying machine says and does what the unbounded one does.
@@ -177,7 +177,7 @@ module _ (breaks : Breaks) (behind : List ℕ) where
 
 -- the unbounded machine that a state stands for, which has these lines of counts to print
 abbrev pub unbounded_of : List (List ℕ) → State → Unbounded
-unbounded_of counts state = record { registry = registry_of state; counts = counts }
+unbounded_of counts state = record { registry = registry_of state; told = counts }
 
 pub record PerformedSame (counts : List (List ℕ)) (x : Performed State) (y : Performed Unbounded) : Type 0 where
   pub text : x.text ≡ y.text
@@ -246,14 +246,14 @@ module _ (counts : List (List ℕ)) (behind : List ℕ) where
             breakpoints = state.breakpoints;
             drawn = state.drawn;
           };
-          counts = counts;
+          told = counts;
         };
         wants = refl;
       }
 
   -- what is printed
-  same_printed : (text : List ℕ) (state : State) → PerformedSame counts (text_printed text state) (text_printed text (unbounded_of counts state))
-  same_printed text state = record { text = refl; after = refl; wants = refl }
+  same_printed : (wants : Bool) (text : List ℕ) (state : State) → PerformedSame counts (text_printed wants text state) (text_printed wants text (unbounded_of counts state))
+  same_printed wants text state = record { text = refl; after = refl; wants = refl }
 
   same_refused : (code : Code) (state : State) → PerformedSame counts (told false (refuses code state)) (told false (refuses code (unbounded_of counts state)))
   same_refused code state = record { text = refl; after = refl; wants = refl }
@@ -261,12 +261,12 @@ module _ (counts : List (List ℕ)) (behind : List ℕ) where
   same_exec_turns : (turns : ℕ) (answer : Answer) (state : State) → ShowsNoFull (exec_turns rules turns answer state) behind
       → PerformedSame counts (exec_turns rules turns answer state) (exec_turns unbounded turns answer (unbounded_of counts state))
   same_exec_turns turns (Loaded p pages entry) state none = same_takes (begun_alone p turns) state none
-  same_exec_turns turns Done state none = same_printed [] state
-  same_exec_turns turns (Forked p q) state none = same_printed [] state
-  same_exec_turns turns (Saved p name space) state none = same_printed [] state
-  same_exec_turns turns (Refused code) state none = same_printed [] state
-  same_exec_turns turns (Full units limit) state none = same_printed [] state
-  same_exec_turns turns Memory state none = same_printed [] state
+  same_exec_turns turns Done state none = same_printed false [] state
+  same_exec_turns turns (Forked p q) state none = same_printed false [] state
+  same_exec_turns turns (Saved p name space) state none = same_printed false [] state
+  same_exec_turns turns (Refused code) state none = same_printed false [] state
+  same_exec_turns turns (Full units limit) state none = same_printed false [] state
+  same_exec_turns turns Memory state none = same_printed false [] state
 
   same_running : (p turns : ℕ) (state : State) (runs : Bool) → ShowsNoFull (cond runs (takes_turns (begun_alone p turns) state) (told false (refuses Ended state))) behind
       → PerformedSame counts (cond runs (takes_turns (begun_alone p turns) state) (told false (refuses Ended state)))
@@ -281,11 +281,11 @@ module _ (counts : List (List ℕ)) (behind : List ℕ) where
 
   same_regs : (p : ℕ) (o : Option Process) (state : State) → PerformedSame counts (regs_of p o state) (regs_of p o (unbounded_of counts state))
   same_regs p None state = same_refused NoProcess state
-  same_regs p (Some process) state = same_printed (regs_text p process) state
+  same_regs p (Some process) state = same_printed false (regs_text p process) state
 
   same_read : (text : Contents → List ℕ) (memory : Contents) (o : Option ℕ) (state : State)
       → PerformedSame counts (prints_read text memory o state) (prints_read text memory o (unbounded_of counts state))
-  same_read text memory None state = same_printed (text memory) state
+  same_read text memory None state = same_printed false (text memory) state
   same_read text memory (Some at) state = same_refused (Unmapped at) state
 
   same_prints : (address n : ℕ) (text : Contents → List ℕ) (o : Option Process) (state : State)
@@ -323,30 +323,31 @@ module _ (counts : List (List ℕ)) (behind : List ℕ) (file : List ℕ) (turns
         wants = refl;
       }
 
--- the lines of counts that a command prints, before others
-abbrev pub with_stats : Command → State → List (List ℕ) → List (List ℕ)
-with_stats command state counts = cond (prints_counts command) (stats_text state ∷ counts) counts
+-- the line of a command that is told by the ledger, before others
+abbrev pub with_told : Command → State → List (List ℕ) → List (List ℕ)
+with_told command state counts = option_map_or (λ done. (done state).text ∷ counts) (ledger_done command) counts
 
 -- Where a command's text has no line of `full`, it comes to what it comes to in the unbounded machine.
 module _ (counts : List (List ℕ)) (behind : List ℕ) (quantum : ℕ) (file : List ℕ) (state : State) where
   abbrev ComesSame : Command → Type 0
   ComesSame c = ShowsNoFull (performed quantum file c state) behind
-      → PerformedSame counts (performed quantum file c state) (performed_by unbounded quantum file c (unbounded_of (with_stats c state counts) state))
+      → PerformedSame counts (performed quantum file c state) (performed_by unbounded quantum file c (unbounded_of (with_told c state counts) state))
 
-  -- a change, of which it is known that it prints no counts
+  -- a change, of which it is known that it isn't told by the ledger
   same_changed : (c : Command) → ((at : State) → performed quantum file c at ≡ change_told rules file c at)
-      → ((at : Unbounded) → performed_by unbounded quantum file c at ≡ change_told unbounded file c at) → prints_counts c ≡ false → ComesSame c
+      → ((at : Unbounded) → performed_by unbounded quantum file c at ≡ change_told unbounded file c at) → ledger_done c ≡ None → ComesSame c
   same_changed c here there is none =
       let same = same_told counts behind (change_row file c (registry_of state)) state (subst (λ x. ShowsNoFull x behind) (here state) none) in
       let left = subst (λ x. PerformedSame counts x (change_told unbounded file c (unbounded_of counts state))) (sym (here state)) same in
-      subst (λ b. PerformedSame counts (performed quantum file c state) (performed_by unbounded quantum file c (unbounded_of (cond b (stats_text state ∷ counts) counts) state))) (sym is)
+      subst (λ (o : Option (State → Performed State)). PerformedSame counts (performed quantum file c state)
+      (performed_by unbounded quantum file c (unbounded_of (option_map_or (λ done. (done state).text ∷ counts) o counts) state))) (sym is)
       (subst (λ y. PerformedSame counts (performed quantum file c state) y) (sym (there (unbounded_of counts state))) left)
 
   same_case : (c : Command) → GoesBy rules unbounded quantum file c → ComesSame c
   same_case _ (ByExec name turns) none = same_exec counts behind file turns state none
   same_case _ (ByRun turns) none = same_takes counts behind (by_turns quantum turns) state none
   same_case _ (ByStep p turns) none = same_steps counts behind p turns (get state.wholes.processes p) state none
-  same_case _ ByList none = same_printed counts behind (list_text (registry_of state)) state
+  same_case _ ByList none = same_printed counts behind false (list_text (registry_of state)) state
   same_case _ ByStats none = record { text = refl; after = refl; wants = refl }
   same_case _ (ByRegs p) none = same_regs counts behind p (get state.wholes.processes p) state
   same_case _ (ByDump p address count) none =
@@ -357,7 +358,7 @@ module _ (counts : List (List ℕ)) (behind : List ℕ) (quantum : ℕ) (file : 
 
 pub same_performed : (counts : List (List ℕ)) (behind : List ℕ) (quantum : ℕ) (file : List ℕ) (c : Command) (state : State)
     → ShowsNoFull (performed quantum file c state) behind
-    → PerformedSame counts (performed quantum file c state) (performed_by unbounded quantum file c (unbounded_of (with_stats c state counts) state))
+    → PerformedSame counts (performed quantum file c state) (performed_by unbounded quantum file c (unbounded_of (with_told c state counts) state))
 same_performed counts behind quantum file c state none = same_case counts behind quantum file state c (goes_by rules unbounded quantum file c) none
 
 -- Each command's text is whole lines, or none.

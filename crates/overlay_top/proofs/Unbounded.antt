@@ -7,7 +7,7 @@ use Rattle.report_text.specs.FullLines.{behind_lines, has_full_line}
 use Rattle.command_core.specs.State.{State, fresh}
 use Rattle.command_core.specs.Commands.{FileAsked, AsksNothing, HasFile, IsMissing, IsTooLong, Performed, file_asked, file_in, performed, performed_by}
 use Rattle.command_core.specs.Unbounded.{Unbounded, unbounded}
-use Rattle.command_core.specs.UnboundedLaws.{PerformedSame, with_stats, performed_lines, same_performed, unbounded_of}
+use Rattle.command_core.specs.UnboundedLaws.{PerformedSame, with_told, performed_lines, same_performed, unbounded_of}
 use Rattle.overlay_top.specs.declared.words.Settings.{Settings}
 use Rattle.overlay_top.specs.Words.{settings_of}
 use Rattle.overlay_top.specs.Outcome.{Asking, RunOutcome, SaysCommands, SaysOutside, SaysTooMuch, ScriptSays, asks_file, chosen_files, chosen_script, command_done, done, outcome_set, passage_of, report_of, run_by, run_from, run_outcome, said, said_outcome, says_by, texts_of, with_asked}
@@ -26,13 +26,13 @@ same_passage asked x y counts same =
     ∙ ap (λ wants. record { text = y.text; wants_memory = asks_file asked || wants }) same.wants
 
 module _ (quantum : ℕ) (files : List ℕ → Option (List ℕ)) where
-  -- the lines of `stats`, one after the other
-  stats_from : List Command → State → List (List ℕ)
-  stats_from [] state = []
-  stats_from (command ∷ commands) state = with_stats command state (stats_from commands (command_done quantum files command state).after)
+  -- the lines of the commands that are told by the ledger, one after the other
+  told_from : List Command → State → List (List ℕ)
+  told_from [] state = []
+  told_from (command ∷ commands) state = with_told command state (told_from commands (command_done quantum files command state).after)
 
   abbrev runs_there : List Command → State → RunOutcome
-  runs_there commands state = run_by unbounded quantum commands (unbounded_of (stats_from commands state) state) files
+  runs_there commands state = run_by unbounded quantum commands (unbounded_of (told_from commands state) state) files
 
   -- one command that is done, and those that follow
   module _ (command : Command) (commands : List Command) (state : State)
@@ -41,17 +41,17 @@ module _ (quantum : ℕ) (files : List ℕ → Option (List ℕ)) where
         → SaysNoFull (done (passage_of asked (performed quantum file command state)) (run_from quantum commands (performed quantum file command state).after files))
         → done (passage_of asked (performed quantum file command state)) (run_from quantum commands (performed quantum file command state).after files)
         ≡ done (passage_of asked (performed_by unbounded quantum file command
-        (unbounded_of (with_stats command state (stats_from commands (performed quantum file command state).after)) state)))
+        (unbounded_of (with_told command state (told_from commands (performed quantum file command state).after)) state)))
         (run_by unbounded quantum commands (performed_by unbounded quantum file command
-        (unbounded_of (with_stats command state (stats_from commands (performed quantum file command state).after)) state)).after files)
+        (unbounded_of (with_told command state (told_from commands (performed quantum file command state).after)) state)).after files)
     done_same asked file none =
         let here = performed quantum file command state in
         let rest = run_from quantum commands here.after files in
-        let lines = stats_from commands here.after in
+        let lines = told_from commands here.after in
         let apart : has_full_line (here.text ++ report_of rest) ≡ false =
         sym (ap has_full_line (append_assoc here.text (texts_of rest.passages) rest.last.text)) ∙ none in
         let same = same_performed lines (report_of rest) quantum file command state apart in
-        let there = performed_by unbounded quantum file command (unbounded_of (with_stats command state lines) state) in
+        let there = performed_by unbounded quantum file command (unbounded_of (with_told command state lines) state) in
         let left = others here.after (behind_lines here.text (report_of rest) (performed_lines quantum file command state) apart) in
         ap (λ passage. done passage rest) (same_passage asked here there lines same)
         ∙ ap (done (passage_of asked there)) (left ∙ ap (λ u. run_by unbounded quantum commands u files) same.after)
@@ -62,9 +62,9 @@ module _ (quantum : ℕ) (files : List ℕ → Option (List ℕ)) where
         → with_asked asked (passage_of asked (performed quantum (file_in asked) command state))
         (run_from quantum commands (performed quantum (file_in asked) command state).after files)
         ≡ with_asked asked (passage_of asked (performed_by unbounded quantum (file_in asked) command
-        (unbounded_of (with_stats command state (stats_from commands (performed quantum (file_in asked) command state).after)) state)))
+        (unbounded_of (with_told command state (told_from commands (performed quantum (file_in asked) command state).after)) state)))
         (run_by unbounded quantum commands (performed_by unbounded quantum (file_in asked) command
-        (unbounded_of (with_stats command state (stats_from commands (performed quantum (file_in asked) command state).after)) state)).after files)
+        (unbounded_of (with_told command state (told_from commands (performed quantum (file_in asked) command state).after)) state)).after files)
     asked_same AsksNothing none = done_same AsksNothing [] none
     asked_same (HasFile file) none = done_same (HasFile file) file none
     asked_same IsMissing none = refl
@@ -72,7 +72,7 @@ module _ (quantum : ℕ) (files : List ℕ → Option (List ℕ)) where
 
   runs_same : (commands : List Command) (state : State) → SaysNoFull (run_from quantum commands state files)
       → run_from quantum commands state files ≡ runs_there commands state
-  unfolding stats_from
+  unfolding told_from
   runs_same [] state none = refl
   runs_same (command ∷ commands) state none =
       asked_same command commands state (runs_same commands) (file_asked files command) none
@@ -83,7 +83,7 @@ says_same : (set : Settings) (files : List ℕ → Option (List ℕ)) (says : Sc
 says_same set files SaysTooMuch none = ([], refl)
 says_same set files (SaysOutside line) none = ([], refl)
 says_same set files (SaysCommands commands) none =
-    (stats_from set.quantum files commands (fresh set.frames), runs_same set.quantum files commands (fresh set.frames) none)
+    (told_from set.quantum files commands (fresh set.frames), runs_same set.quantum files commands (fresh set.frames) none)
 
 set_same : (found : Option Settings) (script : List ℕ) (files : List ℕ → Option (List ℕ)) → SaysNoFull (outcome_set found script files)
     → (counts : List (List ℕ)) × (outcome_set found script files ≡ unbounded_set counts found script files)
