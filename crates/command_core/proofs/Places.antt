@@ -11,6 +11,7 @@ use Rattle.sizes.specs.declared.TheConstants.{LAST_SPACE}
 use Rattle.overlay_pages.specs.Calls.{IsEmptyState}
 use Rattle.overlay_pages.specs.State.{SpaceState, State, base_of, books, held_page}
 use Rattle.translation_cache.specs.Translations.{no_translations}
+use Rattle.command_core.specs.declared.modes.Modes.{Modes}
 use Rattle.command_core.specs.State.{fresh}
 use Rattle.overlay_memory.specs.View.{state_of as spaces_in}
 use Rattle.overlay_memory.specs.View.{TranslatedView}
@@ -120,7 +121,7 @@ session_kept old new spaces drawn is same = record {
   rise = is.rise;
 }
 
-module _ (machine : Machine) (frames : ℕ) (none : IsEmptyState frames (spaces_of machine)) (no_processes : machine.processes ≡ empty) where
+module _ (machine : Machine) (modes : Modes) (none : IsEmptyState modes.frames (spaces_of machine)) (no_processes : machine.processes ≡ empty) where
   no_space_yet : (p : ℕ) → get (spaces_of machine).spaces p ≡ None
   no_space_yet p = ap (λ m. get m p) none.spaces ∙ get-empty nat_cmp p
 
@@ -149,7 +150,7 @@ module _ (machine : Machine) (frames : ℕ) (none : IsEmptyState frames (spaces_
   unfolding bases_of
   no_bases = ap (viewed (λ p (_ : SpaceState). base_of (spaces_of machine) p)) none.spaces ∙ viewed_empty (λ p (_ : SpaceState). base_of (spaces_of machine) p)
 
-  pub wholes_start : lists_of machine ≡ no_translations → wholes machine ≡ (fresh frames).wholes
+  pub wholes_start : lists_of machine ≡ no_translations → wholes machine ≡ (fresh modes).wholes
   wholes_start no_lists = λ i. record { processes = no_wholes i; ledger = no_books i; frames = none.count i; translations = no_lists i }
 
 -- a free space isn't the next one

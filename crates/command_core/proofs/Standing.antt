@@ -10,6 +10,7 @@ use Rattle.machine_core.specs.Turns.{after_turn}
 use Rattle.machine_core.specs.Laws.{like_after_turn, like_back, like_chain, like_itself, like_turn}
 use Rattle.report_text.specs.declared.answer.Code.{Code}
 use Rattle.report_text.specs.declared.answer.Code.TheVariants.{Ended}
+use Rattle.command_core.specs.declared.modes.Modes.{Modes}
 use Rattle.command_core.specs.State.{State, with_wholes}
 use Rattle.command_core.specs.Sessions.{InSession, IsSession, KeepsFree, KeepsRest}
 use Rattle.command_core.specs.declared.checkpoints.Kept.{Kept}
@@ -73,13 +74,13 @@ module _ (breaks : Breaks) where
       )
 
 -- what is kept of the rest
-pub rest_kept : (old new : Machine) (xs : List Kept) (breaks : Breaks) (drawn quantum : ℕ) → IsSession old (spaces_kept xs) drawn → KeepsFree old new
-    → KeepsRest (shown_session old xs breaks drawn quantum) (shown_session new xs breaks drawn quantum)
-rest_kept old new xs breaks drawn quantum is free = record {
+pub rest_kept : (old new : Machine) (xs : List Kept) (breaks : Breaks) (drawn : ℕ) (modes : Modes) → IsSession old (spaces_kept xs) drawn → KeepsFree old new
+    → KeepsRest (shown_session old xs breaks drawn modes) (shown_session new xs breaks drawn modes)
+rest_kept old new xs breaks drawn modes is free = record {
   checkpoints = all_shown (spaces_of new) (spaces_of old) xs (free_same old new (spaces_kept xs) free is.free);
   breakpoints = refl;
   drawn = refl;
-  quantum = refl;
+  modes = refl;
 }
 
 -- the state after turns that left these processes stands, where all else is as it was

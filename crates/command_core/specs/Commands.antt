@@ -14,6 +14,7 @@ use Rattle.report_text.specs.declared.answer.Code.TheVariants.{NoProcess, Ended,
 use Rattle.report_text.specs.declared.TheConstants.{ROW_BYTES}
 use Rattle.report_text.specs.Answers.{answer_text}
 use Rattle.report_text.specs.Lines.{checkpoint_line, disasm_line, dump_line, list_line, process_line, register_line, regs_line, stats_line}
+use Rattle.command_core.specs.declared.modes.Modes.{Modes}
 use Rattle.command_core.specs.declared.TheConstants.{WORD_BYTES}
 use Rattle.command_core.specs.declared.session.Counts.{Counts}
 use Rattle.command_core.specs.State.{Checkpoint, Registry, State, registry_of, with_wholes}
@@ -282,39 +283,39 @@ module _ {S : Type 0} (by : Rules S) where
   disasm_done p address words state =
       prints_of address (WORD_BYTES * words) (λ memory. disasm_text memory address words) (process_in p state) state
 
-  -- What each command comes to, with the file that it has, in turns of a quantum: turns and printed lines, and the
+  -- What each command comes to, with the file that it has, by what is fixed for the run: turns and printed lines, and the
   -- changes, each by its row.
-  abbrev pub performed_by : ℕ → List ℕ → Command → S → Performed S
-  performed_by quantum file (Exec name turns) = exec_done file turns
-  performed_by quantum file (Run turns) = run_done quantum turns
-  performed_by quantum file (Step p turns) = step_done p turns
-  performed_by quantum file command.List = list_done
-  performed_by quantum file command.Stats = by.by_ledger stats_done
-  performed_by quantum file (command.Regs p) = regs_done p
-  performed_by quantum file (command.Dump p address count) = dump_done p address count
-  performed_by quantum file (command.Disasm p address words) = disasm_done p address words
-  performed_by quantum file (Load name) = change_told file (Load name)
-  performed_by quantum file (command.Fork p) = change_told file (command.Fork p)
-  performed_by quantum file (command.Checkpoint p name) = change_told file (command.Checkpoint p name)
-  performed_by quantum file (command.Restore p name) = change_told file (command.Restore p name)
-  performed_by quantum file (command.Forget name) = change_told file (command.Forget name)
-  performed_by quantum file (command.Speculate p) = change_told file (command.Speculate p)
-  performed_by quantum file (command.Commit p) = change_told file (command.Commit p)
-  performed_by quantum file (command.Discard p) = change_told file (command.Discard p)
-  performed_by quantum file (command.Promote p address) = change_told file (command.Promote p address)
-  performed_by quantum file (command.PromoteAll p) = change_told file (command.PromoteAll p)
-  performed_by quantum file command.Compact = change_told file command.Compact
-  performed_by quantum file (command.Map p address n perms) = change_told file (command.Map p address n perms)
-  performed_by quantum file (command.Unmap p address n) = change_told file (command.Unmap p address n)
-  performed_by quantum file (command.Drop p) = change_told file (command.Drop p)
-  performed_by quantum file (command.Poke p address bytes) = change_told file (command.Poke p address bytes)
-  performed_by quantum file (command.Set p register value) = change_told file (command.Set p register value)
-  performed_by quantum file (command.Break p address) = change_told file (command.Break p address)
-  performed_by quantum file (command.Unbreak p address) = change_told file (command.Unbreak p address)
+  abbrev pub performed_by : Modes → List ℕ → Command → S → Performed S
+  performed_by modes file (Exec name turns) = exec_done file turns
+  performed_by modes file (Run turns) = run_done modes.quantum turns
+  performed_by modes file (Step p turns) = step_done p turns
+  performed_by modes file command.List = list_done
+  performed_by modes file command.Stats = by.by_ledger stats_done
+  performed_by modes file (command.Regs p) = regs_done p
+  performed_by modes file (command.Dump p address count) = dump_done p address count
+  performed_by modes file (command.Disasm p address words) = disasm_done p address words
+  performed_by modes file (Load name) = change_told file (Load name)
+  performed_by modes file (command.Fork p) = change_told file (command.Fork p)
+  performed_by modes file (command.Checkpoint p name) = change_told file (command.Checkpoint p name)
+  performed_by modes file (command.Restore p name) = change_told file (command.Restore p name)
+  performed_by modes file (command.Forget name) = change_told file (command.Forget name)
+  performed_by modes file (command.Speculate p) = change_told file (command.Speculate p)
+  performed_by modes file (command.Commit p) = change_told file (command.Commit p)
+  performed_by modes file (command.Discard p) = change_told file (command.Discard p)
+  performed_by modes file (command.Promote p address) = change_told file (command.Promote p address)
+  performed_by modes file (command.PromoteAll p) = change_told file (command.PromoteAll p)
+  performed_by modes file command.Compact = change_told file command.Compact
+  performed_by modes file (command.Map p address n perms) = change_told file (command.Map p address n perms)
+  performed_by modes file (command.Unmap p address n) = change_told file (command.Unmap p address n)
+  performed_by modes file (command.Drop p) = change_told file (command.Drop p)
+  performed_by modes file (command.Poke p address bytes) = change_told file (command.Poke p address bytes)
+  performed_by modes file (command.Set p register value) = change_told file (command.Set p register value)
+  performed_by modes file (command.Break p address) = change_told file (command.Break p address)
+  performed_by modes file (command.Unbreak p address) = change_told file (command.Unbreak p address)
 
 -- by those of the copying machine; and the same in a session
-abbrev pub performed : ℕ → List ℕ → Command → State → Performed State
-performed quantum file command = performed_by rules quantum file command
+abbrev pub performed : Modes → List ℕ → Command → State → Performed State
+performed modes file command = performed_by rules modes file command
 
 abbrev pub performed_in : InSession → List ℕ → Command → Performed State
-performed_in session file command = performed session.quantum file command session.state
+performed_in session file command = performed session.modes file command session.state

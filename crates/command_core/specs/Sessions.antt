@@ -10,7 +10,8 @@ use Rattle.breakpoints.specs.Breakpoints.{Breaks}
 use Rattle.sizes.specs.declared.TheConstants.{LAST_SPACE}
 use Rattle.space_maps.specs.Spaces.{space_in}
 use Rattle.machine_core.specs.Machine.{Machine, has_saved, has_space, is_marked, spaces_of, wholes}
-use Rattle.command_core.specs.State.{Checkpoint, State}
+use Rattle.command_core.specs.declared.modes.Modes.{Modes}
+use Rattle.command_core.specs.State.{Checkpoint, State, fresh}
 
 -- What a session keeps, and the state that it shows.
 
@@ -69,15 +70,19 @@ Bases = FinMap nat_cmp Memory
 unfoldable pub bases_of : Spaces → Bases
 bases_of spaces = viewed (λ p _. base_of spaces p) spaces.spaces
 
--- A session: the state, the quantum of turns by round robin, and the bases of all spaces.
+-- A session: the state, what is fixed for the whole run, and the bases of all spaces.
 pub record InSession : Type 0 where
   pub state : State
-  pub quantum : ℕ
+  pub modes : Modes
   pub bases : Bases
+
+-- one without a process
+abbrev pub fresh_session : Modes → InSession
+fresh_session modes = record { state = fresh modes; modes = modes; bases = empty }
 
 -- all but the processes is as it was
 pub record KeepsRest (old new : InSession) : Type 0 where
   pub checkpoints : new.state.checkpoints ≡ old.state.checkpoints
   pub breakpoints : new.state.breakpoints ≡ old.state.breakpoints
   pub drawn : new.state.drawn ≡ old.state.drawn
-  pub quantum : new.quantum ≡ old.quantum
+  pub modes : new.modes ≡ old.modes

@@ -6,6 +6,7 @@ use Rattle.translation_cache.specs.Bare.{BareTranslations}
 use Rattle.translation_cache.specs.Translations.{no_translations}
 use Rattle.machine_core.specs.Process.{Process, Whole}
 use Rattle.machine_core.specs.Machine.{AreLike, Processes, Wholes}
+use Rattle.command_core.specs.declared.modes.Modes.{Modes}
 
 -- A checkpoint: its name, the number of its space, and the whole that is kept.
 pub record Checkpoint : Type 0 where
@@ -21,10 +22,10 @@ pub record State : Type 0 where
   pub breakpoints : Breaks
   pub drawn : ℕ
 
--- the state at the start, with so many frames
-abbrev pub fresh : ℕ → State
-fresh frames = record {
-  wholes = record { processes = empty; ledger = empty; frames = frames; translations = no_translations };
+-- the state at the start
+abbrev pub fresh : Modes → State
+fresh modes = record {
+  wholes = record { processes = empty; ledger = empty; frames = modes.frames; translations = no_translations };
   checkpoints = [];
   breakpoints = empty;
   drawn = 0;

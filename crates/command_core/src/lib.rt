@@ -3,6 +3,7 @@
 //! The model is the copying machine: the processes by number, each with its whole memory, the checkpoints by name, the breakpoints
 //! of each process, and how many numbers were drawn; for each command what it comes to, as one value.
 //!
+//! - `modes`: what is fixed for a whole run
 //! - `session`: loads, changes, and what is looked up
 //! - `forking`: a process under a second number
 //! - `saving`: checkpoints of processes, made and put back
@@ -18,6 +19,7 @@
 mod checkpoints;
 mod forking;
 mod mapping;
+mod modes;
 mod poking;
 mod process_changes;
 mod reading;
@@ -26,6 +28,7 @@ mod session;
 mod taking;
 mod turns;
 
+pub use modes::Modes;
 pub use session::{CheckpointView, Counts, ProcessView, Session};
 pub use turns::{Order, Running};
 

@@ -3,7 +3,7 @@ ghost use Rattle.script_text.specs.Given.{IsGiven};
 ghost use Rattle.report_text.specs.Answers.{IsCheckpointName};
 ghost use Rattle.sizes.specs.declared.TheConstants.{ADDRESS_END, LAST_SPACE, MOST_FRAMES, PAGE_BYTES};
 ghost use Rattle.command_core.specs.State.{fresh, registry_of};
-ghost use Rattle.command_core.specs.Sessions.{KeepsRest};
+ghost use Rattle.command_core.specs.Sessions.{KeepsRest, fresh_session};
 ghost use Rattle.command_core.specs.Giving.{GivesChange, WantKeeps};
 ghost use Rattle.command_core.specs.Rows.{still_row};
 ghost use Rattle.command_core.specs.Copies.{fork_row};
@@ -15,12 +15,13 @@ ghost use Rattle.command_core.specs.Commands.{RunsLoaded, asks};
 ghost use Rattle.command_core.specs.Looks.{BeginsStep, CanRead, LooksAt, LooksAtCheckpoint, NextProcess, ReadsBytes, counts_of, look_of, looked_at};
 ghost use Rattle.command_core.specs.Ample.{IsAmplyDone};
 ghost use Rattle.command_core.specs.Standing.{SessionAnswersAs, GivesAs, HoldsFor, SessionStandsFor, TurnsAs, begun_run, begun_step, ends_run, speaks, takes_turn};
-ghost use Rattle.std.specs.FinMap.{empty, get};
+ghost use Rattle.std.specs.FinMap.{get};
 ghost use Rattle.command_core.specs.Turns.{IsTurnLine, begun_by, lines_left, run_found};
 
 use crate::checkpoints::{Checkpoints, Kept};
 use crate::forking::{fork_process, fork_refusal};
 use crate::process_changes::{ProcessChange, change_process};
+use crate::modes::Modes;
 use crate::poking::poke;
 use crate::reading::{can_read, read_bytes};
 use crate::saving::{checkpoint_refusal, restore_process, save_process};
@@ -73,7 +74,7 @@ pub struct Counts {
     pub misses: u64,
 }
 
-/// Processes by number, checkpoints by name, breakpoints, what commands do to them, and the quantum of turns.
+/// Processes by number, checkpoints by name, breakpoints, what commands do to them, and what is fixed for the whole run.
 #[derive(Drop)]
 pub struct Session {
     alloc: Global,
@@ -81,7 +82,7 @@ pub struct Session {
     checkpoints: Checkpoints,
     breakpoints: Breakpoints,
     drawn: u16,
-    quantum: u32,
+    modes: Modes,
 }
 
 impl Model for Session {
@@ -94,10 +95,10 @@ impl Model for Session {
 
     ghost coded = { session_code };
 
-    ghost view = { λ s. shown_session s.machine s.checkpoints s.breakpoints s.drawn s.quantum };
+    ghost view = { λ s. shown_session s.machine s.checkpoints s.breakpoints s.drawn s.modes };
 
     ghost invariant = { λ s. IsSession s.machine (spaces_kept s.checkpoints) s.drawn
-        × (1 ≤ s.quantum) × NoBreaksAbove s.drawn s.breakpoints };
+        × (1 ≤ s.modes.quantum) × NoBreaksAbove s.drawn s.breakpoints };
 }
 
 /// What a load or a copy that wasn't done answers.
@@ -129,9 +130,9 @@ impl Session {
         requires some { 0 < frames }
         requires few { frames ≤ MOST_FRAMES }
         requires quantum { 1 ≤ quantum }
-        ensures session { IfOk result (λ session. session
-            ≡ record { state = fresh frames; quantum = quantum; bases = empty }) }
-        ensures stands { IfOk result (λ session. SessionStandsFor session (fresh frames)) }
+        ensures session { IfOk result (λ session. session ≡ fresh_session (record { frames = frames; quantum = quantum })) }
+        ensures stands { IfOk result (λ session. SessionStandsFor session
+            (fresh (record { frames = frames; quantum = quantum }))) }
     {
         Ok(Session {
             alloc,
@@ -139,7 +140,7 @@ impl Session {
             checkpoints: Checkpoints::new(alloc),
             breakpoints: Breakpoints::new(alloc),
             drawn: 0,
-            quantum,
+            modes: Modes { frames, quantum },
         })
     }
 
@@ -154,7 +155,7 @@ impl Session {
         ensures want { WantKeeps self.old result self.new }
         ensures told { CanBeTold result }
         ensures runs { RunsLoaded result self.new.state }
-        ensures quantum { self.new.quantum ≡ self.old.quantum }
+        ensures modes { self.new.modes ≡ self.old.modes }
     {
         let image = match read_image(self.alloc, file) {
             Ok(image) => image,
@@ -189,7 +190,7 @@ impl Session {
             result self.new.state }
         ensures want { WantKeeps self.old result self.new }
         ensures told { CanBeTold result }
-        ensures quantum { self.new.quantum ≡ self.old.quantum }
+        ensures modes { self.new.modes ≡ self.old.modes }
     {
         let process = match self.machine.process(p) {
             None => return Answer::Refused(Code::NoProcess),
@@ -218,7 +219,7 @@ impl Session {
             self.old.state result self.new.state }
         ensures want { WantKeeps self.old result self.new }
         ensures told { CanBeTold result }
-        ensures quantum { self.new.quantum ≡ self.old.quantum }
+        ensures modes { self.new.modes ≡ self.old.modes }
     {
         let process = match self.machine.process(p) {
             None => return Answer::Refused(Code::NoProcess),
@@ -255,7 +256,7 @@ impl Session {
             self.old.state result self.new.state }
         ensures want { WantKeeps self.old result self.new }
         ensures told { CanBeTold result }
-        ensures quantum { self.new.quantum ≡ self.old.quantum }
+        ensures modes { self.new.modes ≡ self.old.modes }
     {
         match self.machine.process(p) {
             None => return Answer::Refused(Code::NoProcess),
@@ -282,7 +283,7 @@ impl Session {
             self.old.state result self.new.state }
         ensures want { WantKeeps self.old result self.new }
         ensures told { CanBeTold result }
-        ensures quantum { self.new.quantum ≡ self.old.quantum }
+        ensures modes { self.new.modes ≡ self.old.modes }
     {
         match self.checkpoints.remove(name.as_slice()) {
             None => Answer::Refused(Code::NoCheckpoint),
@@ -300,7 +301,7 @@ impl Session {
             self.old.state result self.new.state }
         ensures want { WantKeeps self.old result self.new }
         ensures told { CanBeTold result }
-        ensures quantum { self.new.quantum ≡ self.old.quantum }
+        ensures modes { self.new.modes ≡ self.old.modes }
     {
         match self.machine.process(p) {
             None => Answer::Refused(Code::NoProcess),
@@ -318,7 +319,7 @@ impl Session {
             result self.new.state }
         ensures want { WantKeeps self.old result self.new }
         ensures told { CanBeTold result }
-        ensures quantum { self.new.quantum ≡ self.old.quantum }
+        ensures modes { self.new.modes ≡ self.old.modes }
     {
         self.machine.memory_mut().compact();
         Answer::Done
@@ -332,7 +333,7 @@ impl Session {
             self.old.state result self.new.state }
         ensures want { WantKeeps self.old result self.new }
         ensures told { CanBeTold result }
-        ensures quantum { self.new.quantum ≡ self.old.quantum }
+        ensures modes { self.new.modes ≡ self.old.modes }
     {
         match self.machine.process(p) {
             None => Answer::Refused(Code::NoProcess),
@@ -349,7 +350,7 @@ impl Session {
             self.old.state result self.new.state }
         ensures want { WantKeeps self.old result self.new }
         ensures told { CanBeTold result }
-        ensures quantum { self.new.quantum ≡ self.old.quantum }
+        ensures modes { self.new.modes ≡ self.old.modes }
     {
         match self.machine.process(p) {
             None => return Answer::Refused(Code::NoProcess),
@@ -368,7 +369,7 @@ impl Session {
             self.old.state result self.new.state }
         ensures want { WantKeeps self.old result self.new }
         ensures told { CanBeTold result }
-        ensures quantum { self.new.quantum ≡ self.old.quantum }
+        ensures modes { self.new.modes ≡ self.old.modes }
     {
         match self.machine.process(p) {
             None => return Answer::Refused(Code::NoProcess),
@@ -384,7 +385,7 @@ impl Session {
             result self.new.state }
         ensures want { WantKeeps self.old result self.new }
         ensures told { CanBeTold result }
-        ensures quantum { self.new.quantum ≡ self.old.quantum }
+        ensures modes { self.new.modes ≡ self.old.modes }
     {
         match self.machine.process(p) {
             None => return Answer::Refused(Code::NoProcess),
@@ -405,7 +406,7 @@ impl Session {
             result self.new.state }
         ensures want { WantKeeps self.old result self.new }
         ensures told { CanBeTold result }
-        ensures quantum { self.new.quantum ≡ self.old.quantum }
+        ensures modes { self.new.modes ≡ self.old.modes }
     {
         match command {
             Command::Fork(p) => self.fork(*p),
@@ -458,17 +459,17 @@ impl Session {
         ensures ample { IsAmplyDone (change_row [] command.now) self.old result }
         ensures want { WantKeeps self.old result self.new }
         ensures told { CanBeTold result }
-        ensures quantum { self.new.quantum ≡ self.old.quantum }
+        ensures modes { self.new.modes ≡ self.old.modes }
     {
         self.do_row(command)
     }
 
     /// Begins so many turns, at least 1, by round robin.
     pub fn begin_run(&self, turns: u32) -> Running
-        ensures begun { result ≡ begun_run self.now.quantum turns self.now.state }
-        ensures stands { SessionAnswersAs (begun_run self.now.quantum turns) self.now result }
+        ensures begun { result ≡ begun_run self.now.modes.quantum turns self.now.state }
+        ensures stands { SessionAnswersAs (begun_run self.now.modes.quantum turns) self.now result }
     {
-        self.begin(Order::ByTurns(RoundRobin::new(self.quantum)), turns)
+        self.begin(Order::ByTurns(RoundRobin::new(self.modes.quantum)), turns)
     }
 
     /// Begins so many turns, at least 1, of one process. Refused where there is none, or where it has ended.

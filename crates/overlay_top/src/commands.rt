@@ -169,7 +169,7 @@ fn step<K: Sink>(
 /// Gives processes so many turns, by round robin.
 fn run_all<K: Sink>(session: &mut Session, turns: u32, report: &mut Report<K>) -> Result<(), Failed>
     ensures takes { TakesOn K.Sink report.old.sink.now report.new.sink.now
-        (run_done rules session.old.quantum turns session.old.state) session.old session.new result }
+        (run_done rules session.old.modes.quantum turns session.old.state) session.old session.new result }
     ensures same { report.new.sink.ghost_name ≡ report.old.sink.ghost_name }
 {
     let mut running = session.begin_run(turns);

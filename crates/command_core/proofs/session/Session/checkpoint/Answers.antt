@@ -91,10 +91,10 @@ returns-in-Err-clause-gives c =
 pub returns-in-Err-clause-want : goal.returns-in-Err-clause-want
 returns-in-Err-clause-want c =
     let s = c.self.inside in
-    let old = shown_session s.machine s.checkpoints s.breakpoints s.drawn s.quantum in
+    let old = shown_session s.machine s.checkpoints s.breakpoints s.drawn s.modes in
     let new = c.save_process.new.machine in
-    told_keeps c.args.self.now old (shown_session new c.save_process.new.checkpoints s.breakpoints s.drawn s.quantum)
+    told_keeps c.args.self.now old (shown_session new c.save_process.new.checkpoints s.breakpoints s.drawn s.modes)
     c.not_made.result (answer_of c.in-Err.error) c.self.view_is c.not_made.ensures
-    (subst (λ (xs : List Kept). WantKeeps (shown_session c.self.inside.machine c.self.inside.checkpoints c.self.inside.breakpoints c.self.inside.drawn c.self.inside.quantum)
-    (answer_of c.in-Err.error) (shown_session c.save_process.new.machine xs c.self.inside.breakpoints c.self.inside.drawn c.self.inside.quantum)) (sym c.in-Err.ensures.kept)
-    (copy_keeps_all s.machine new s.checkpoints s.breakpoints s.drawn s.quantum c.args.p (s.drawn + 1) c.in-Err.error c.in-Err.ensures.saves))
+    (subst (λ (xs : List Kept). WantKeeps (shown_session c.self.inside.machine c.self.inside.checkpoints c.self.inside.breakpoints c.self.inside.drawn c.self.inside.modes)
+    (answer_of c.in-Err.error) (shown_session c.save_process.new.machine xs c.self.inside.breakpoints c.self.inside.drawn c.self.inside.modes)) (sym c.in-Err.ensures.kept)
+    (copy_keeps_all s.machine new s.checkpoints s.breakpoints s.drawn s.modes c.args.p (s.drawn + 1) c.in-Err.error c.in-Err.ensures.saves))

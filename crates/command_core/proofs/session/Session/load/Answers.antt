@@ -74,23 +74,23 @@ returns-clause-gives c =
 pub returns-in-Ok-load-clause-stands : goal.returns-in-Ok-load-clause-stands
 returns-in-Ok-load-clause-stands c =
     let drawn = c.self.inside.drawn + 1 in
-    gives_as (load_row c.args.file.now) c.args.self.now (shown_session c.load.new.self c.self.inside.checkpoints c.self.inside.breakpoints drawn c.self.inside.quantum)
+    gives_as (load_row c.args.file.now) c.args.self.now (shown_session c.load.new.self c.self.inside.checkpoints c.self.inside.breakpoints drawn c.self.inside.modes)
     (Loaded drawn c.in-Ok-load.pages c.entry.result) (returns-in-Ok-load-clause-gives c)
 
 pub returns-clause-stands : goal.returns-clause-stands
 returns-clause-stands c =
-    gives_as (load_row c.args.file.now) c.args.self.now (shown_session c.load.new.self c.self.inside.checkpoints c.self.inside.breakpoints c.self.inside.drawn c.self.inside.quantum)
+    gives_as (load_row c.args.file.now) c.args.self.now (shown_session c.load.new.self c.self.inside.checkpoints c.self.inside.breakpoints c.self.inside.drawn c.self.inside.modes)
     c.not_made.result (returns-clause-gives c)
 
 pub returns-clause-ample : goal.returns-clause-ample
 returns-clause-ample c =
     amply_loaded c.args.file.now c.args.self.now
-    (shown_session c.load.new.self c.self.inside.checkpoints c.self.inside.breakpoints c.self.inside.drawn c.self.inside.quantum) c.not_made.result (returns-clause-stands c)
+    (shown_session c.load.new.self c.self.inside.checkpoints c.self.inside.breakpoints c.self.inside.drawn c.self.inside.modes) c.not_made.result (returns-clause-stands c)
 
 pub returns-clause-want : goal.returns-clause-want
 returns-clause-want c =
     let s = c.self.inside in
     let new = c.load.new.self in
-    told_keeps c.args.self.now (shown_session s.machine s.checkpoints s.breakpoints s.drawn s.quantum) (shown_session new s.checkpoints s.breakpoints s.drawn s.quantum)
+    told_keeps c.args.self.now (shown_session s.machine s.checkpoints s.breakpoints s.drawn s.modes) (shown_session new s.checkpoints s.breakpoints s.drawn s.modes)
     c.not_made.result (answer_of c.in-Err-load.error) c.self.view_is c.not_made.ensures
-    (load_keeps_all s.machine new s.checkpoints s.breakpoints s.drawn s.quantum (s.drawn + 1) c.args.file.now c.in-Err-load.error c.in-Err-load.ensures.loads)
+    (load_keeps_all s.machine new s.checkpoints s.breakpoints s.drawn s.modes (s.drawn + 1) c.args.file.now c.in-Err-load.error c.in-Err-load.ensures.loads)
