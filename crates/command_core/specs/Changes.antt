@@ -1,4 +1,4 @@
-use Rattle.std.specs.Prelude.{ℕ, ◌+◌, true, false, List, [], ◌∷◌, Some, None}
+use Rattle.std.specs.Prelude.{ℕ, Option, true, false, List, [], ◌∷◌, Some, None}
 use Rattle.std.specs.Option.{option_map, option_map_or}
 use Rattle.std.specs.FinMap.{get, remove}
 use Rattle.elf_loader.specs.Accepted.{file_refusal}
@@ -15,9 +15,9 @@ use Rattle.report_text.specs.Answers.{HasAnswerLine}
 use Rattle.script_text.specs.declared.command.Command.{Command}
 use Rattle.script_text.specs.declared.command.Command.TheVariants as command
 use Rattle.command_core.specs.declared.process_changes.ProcessChange.TheVariants.{Speculate, Commit, Discard, Promote, PromoteAll, Map, Unmap, Set}
-use Rattle.command_core.specs.State.{Registry}
+use Rattle.command_core.specs.State.{Registry, next_number}
 use Rattle.command_core.specs.Rows.{Row, TakesFirst, plain_row, refused_row, still_row}
-use Rattle.command_core.specs.Refusals.{by_numbers_used}
+use Rattle.command_core.specs.Refusals.{by_numbers_used, number_in}
 use Rattle.command_core.specs.Copies.{draws, fork_row}
 use Rattle.command_core.specs.ProcessChanges.{process_row}
 use Rattle.command_core.specs.Debugging.{break_row, poke_row, unbreak_row}
@@ -30,16 +30,19 @@ abbrev pub on_process : ℕ → (Process → Registry → Row) → Registry → 
 on_process p row registry = option_map_or (λ process. row process registry) (get registry.processes p) (refused_row NoProcess registry)
 
 -- `load`: a process of a file, under the next number
-abbrev pub load_row : List ℕ → Registry → Row
-load_row file registry = record {
-  refusals = option_map Elf (file_refusal file) ∷ by_numbers_used registry.drawn ∷ [];
+abbrev pub load_under : Option ℕ → List ℕ → Registry → Row
+load_under next file registry = record {
+  refusals = option_map Elf (file_refusal file) ∷ by_numbers_used next ∷ [];
   memory = TakesFirst;
-  event = event.Load (registry.drawn + 1) (load_pages file);
+  event = event.Load (number_in next) (load_pages file);
   may_need_units = true;
   flushes = None;
-  answer = Loaded (registry.drawn + 1) (page_count file) (entry_address file);
-  after = draws (loaded_process file) registry;
+  answer = Loaded (number_in next) (page_count file) (entry_address file);
+  after = draws (number_in next) (loaded_process file) registry;
 }
+
+abbrev pub load_row : List ℕ → Registry → Row
+load_row file registry = load_under (next_number registry) file registry
 
 -- `drop`: the process goes, with its pages, their translations and its breakpoints
 abbrev pub drop_row : ℕ → Process → Registry → Row

@@ -1,4 +1,4 @@
-use Rattle.std.specs.Prelude.{◌≡◌, ℕ, ◌+◌, nat_eq, Bool, true, false, List, [], ◌∷◌, ◌++◌, Option, Some, None, if◌then◌else◌, Result, Ok, Err}
+use Rattle.std.specs.Prelude.{◌≡◌, ℕ, nat_eq, Bool, true, false, List, [], ◌∷◌, ◌++◌, Option, Some, None, if◌then◌else◌, Result, Ok, Err}
 use Rattle.std.specs.Option.{is_some, option_map_or}
 use Rattle.std.specs.FinMap.{empty}
 use Rattle.space_maps.specs.Spaces.{space_in}
@@ -13,9 +13,9 @@ use Rattle.machine_core.specs.Machine.{IsDropped, Machine, StaysBut, Wholes, has
 use Rattle.report_text.specs.declared.answer.Answer.TheVariants.{Done, Saved}
 use Rattle.report_text.specs.declared.answer.Code.{Code}
 use Rattle.report_text.specs.declared.answer.Code.TheVariants.{NoCheckpoint}
-use Rattle.command_core.specs.State.{Checkpoint, Registry, process_of, whole_of}
+use Rattle.command_core.specs.State.{Checkpoint, Registry, next_number, process_of, whole_of}
 use Rattle.command_core.specs.Rows.{Row, TakesLast, ledger_by, plain_row, refused_row}
-use Rattle.command_core.specs.Refusals.{by_name_taken, by_no_checkpoint, by_numbers_used, by_speculating}
+use Rattle.command_core.specs.Refusals.{by_name_taken, by_no_checkpoint, by_numbers_used, by_speculating, number_in}
 use Rattle.command_core.specs.Copies.{CopyEnds}
 use Rattle.command_core.specs.ProcessChanges.{leaves}
 
@@ -30,29 +30,30 @@ abbrev pub checkpoints_but : List ℕ → List Checkpoint → List Checkpoint
 checkpoints_but name [] = []
 checkpoints_but name (x ∷ xs) = if pointwise nat_eq name x.name then xs else x ∷ checkpoints_but name xs
 
--- one more, with the next number
-abbrev pub saves : List ℕ → Process → Registry → Registry
-saves name process registry = record {
-  processes = registry.processes;
-  checkpoints = registry.checkpoints ++ record { name = name; space = registry.drawn + 1; whole = whole_of process } ∷ [];
-  breakpoints = registry.breakpoints;
-  drawn = registry.drawn + 1;
+-- one more, with this number
+abbrev pub saves : ℕ → List ℕ → Process → Registry → Registry
+saves n name process registry = record registry {
+  checkpoints = registry.checkpoints ++ record { name = name; space = n; whole = whole_of process } ∷ [];
+  drawn = n;
 }
 
-abbrev pub checkpoint_refusals : Bool → Bool → ℕ → List (Option Code)
-checkpoint_refusals speculating found drawn = by_speculating speculating ∷ by_name_taken found ∷ by_numbers_used drawn ∷ []
+abbrev pub checkpoint_refusals : Bool → Bool → Option ℕ → List (Option Code)
+checkpoint_refusals speculating found next = by_speculating speculating ∷ by_name_taken found ∷ by_numbers_used next ∷ []
 
 -- `checkpoint`: the whole is kept, the last of all, with a copy of the process's pages in the ledger
-abbrev pub checkpoint_row : ℕ → List ℕ → Process → Registry → Row
-checkpoint_row p name process registry = record {
-  refusals = checkpoint_refusals (is_speculating process) (is_some (checkpoint_named name registry.checkpoints)) registry.drawn;
+abbrev pub checkpoint_under : Option ℕ → ℕ → List ℕ → Process → Registry → Row
+checkpoint_under next p name process registry = record {
+  refusals = checkpoint_refusals (is_speculating process) (is_some (checkpoint_named name registry.checkpoints)) next;
   memory = TakesLast;
-  event = Copy p (registry.drawn + 1);
+  event = Copy p (number_in next);
   may_need_units = true;
   flushes = None;
-  answer = Saved p name (registry.drawn + 1);
-  after = saves name process registry;
+  answer = Saved p name (number_in next);
+  after = saves (number_in next) name process registry;
 }
+
+abbrev pub checkpoint_row : ℕ → List ℕ → Process → Registry → Row
+checkpoint_row p name process registry = checkpoint_under (next_number registry) p name process registry
 
 abbrev pub restore_refusals : Bool → Bool → List (Option Code)
 restore_refusals speculating found = by_speculating speculating ∷ by_no_checkpoint found ∷ []

@@ -1,4 +1,5 @@
-use Rattle.std.specs.Prelude.{◌≡◌, ℕ, List, [], None}
+use Rattle.std.specs.Prelude.{◌≡◌, ℕ, ◌+◌, nat_lt, if◌then◌else◌, List, [], Option, Some, None}
+use Rattle.sizes.specs.declared.TheConstants.{LAST_SPACE}
 use Rattle.std.specs.FinMap.{empty}
 use Rattle.breakpoints.specs.Breakpoints.{Breaks}
 use Rattle.ledger.specs.Ledger.{Ledger}
@@ -41,6 +42,13 @@ pub record Registry : Type 0 where
   pub checkpoints : List Checkpoint
   pub breakpoints : Breaks
   pub drawn : ℕ
+
+-- The next number, of a process or of a checkpoint: none where all were drawn.
+abbrev pub number_after : ℕ → Option ℕ
+number_after drawn = if nat_lt drawn LAST_SPACE then Some (drawn + 1) else None
+
+abbrev pub next_number : Registry → Option ℕ
+next_number registry = number_after registry.drawn
 
 abbrev pub registry_of : State → Registry
 registry_of state =

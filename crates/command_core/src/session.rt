@@ -2,7 +2,7 @@ ghost use Rattle.std.specs.Prelude.{◌≡◌, ◌==◌, ◌+◌, ◌≤◌, ◌
 ghost use Rattle.script_text.specs.Given.{IsGiven};
 ghost use Rattle.report_text.specs.Answers.{IsCheckpointName};
 ghost use Rattle.sizes.specs.declared.TheConstants.{ADDRESS_END, LAST_SPACE, MOST_FRAMES, PAGE_BYTES};
-ghost use Rattle.command_core.specs.State.{fresh, registry_of};
+ghost use Rattle.command_core.specs.State.{fresh, number_after, registry_of};
 ghost use Rattle.command_core.specs.Sessions.{KeepsRest, fresh_session};
 ghost use Rattle.command_core.specs.Giving.{GivesChange, WantKeeps};
 ghost use Rattle.command_core.specs.Rows.{still_row};
@@ -19,12 +19,12 @@ ghost use Rattle.std.specs.FinMap.{get};
 ghost use Rattle.command_core.specs.Turns.{IsTurnLine, begun_by, lines_left, run_found};
 
 use crate::checkpoints::{Checkpoints, Kept};
-use crate::forking::{fork_process, fork_refusal};
+use crate::forking::{fork_number, fork_process};
 use crate::process_changes::{ProcessChange, change_process};
 use crate::modes::Modes;
 use crate::poking::poke;
 use crate::reading::{can_read, read_bytes};
-use crate::saving::{checkpoint_refusal, restore_process, save_process};
+use crate::saving::{checkpoint_number, restore_process, save_process};
 use crate::taking::{ending, next_turn, turns_to_line};
 use crate::turns::{Order, Running};
 use breakpoints::Breakpoints;
@@ -111,6 +111,18 @@ fn not_made(error: SpaceError) -> Answer
     }
 }
 
+/// The next number, of a process or of a checkpoint, where so many were drawn: none where that is all.
+fn next_number(drawn: u16) -> Option<u16>
+    ensures next { result ≡ number_after drawn }
+    ensures free { IfSome result (λ n. (drawn < n) × (n ≤ LAST_SPACE)) }
+{
+    if drawn < LAST_SPACE {
+        Some(drawn + 1)
+    } else {
+        None
+    }
+}
+
 /// A checkpoint of so many pages, as it is shown.
 fn view_of(kept: &Kept, pages: u32) -> CheckpointView<'_>
     ensures name { result.name.now ≡ kept.now.name }
@@ -162,10 +174,10 @@ impl Session {
             Err(ElfError::Memory) => return Answer::Memory,
             Err(error) => return Answer::Refused(Code::Elf(error)),
         };
-        if self.are_all_drawn() {
-            return Answer::Refused(Code::NumbersUsed);
-        }
-        let p = self.drawn + 1;
+        let p = match next_number(self.drawn) {
+            None => return Answer::Refused(Code::NumbersUsed),
+            Some(p) => p,
+        };
         match self.machine.load(p, &image, file) {
             Ok(pages) => {
                 self.drawn = p;
@@ -173,13 +185,6 @@ impl Session {
             }
             Err(error) => not_made(error),
         }
-    }
-
-    /// Whether all numbers were drawn.
-    fn are_all_drawn(&self) -> bool
-        ensures { result ≡ (self.now.state.drawn == LAST_SPACE) }
-    {
-        self.drawn == LAST_SPACE
     }
 
     /// Makes a process under the next number, with the registers and the memory of a process, whose frames it shares: `Forked`, or why
@@ -197,11 +202,10 @@ impl Session {
             Some(process) => *process,
         };
         let speculating = self.machine.memory().is_speculating(p);
-        match fork_refusal(process.state, speculating, self.drawn) {
-            Some(code) => return Answer::Refused(code),
-            None => {}
-        }
-        let q = self.drawn + 1;
+        let q = match fork_number(process.state, speculating, next_number(self.drawn)) {
+            Ok(q) => q,
+            Err(code) => return Answer::Refused(code),
+        };
         match fork_process(&mut self.machine, p, q, process) {
             Ok(()) => {
                 self.drawn = q;
@@ -227,11 +231,10 @@ impl Session {
         };
         let speculating = self.machine.memory().is_speculating(p);
         let taken = self.checkpoints.has(name.as_slice());
-        match checkpoint_refusal(speculating, taken, self.drawn) {
-            Some(refusal) => return Answer::Refused(refusal),
-            None => {}
-        }
-        let q = self.drawn + 1;
+        let q = match checkpoint_number(speculating, taken, next_number(self.drawn)) {
+            Ok(q) => q,
+            Err(code) => return Answer::Refused(code),
+        };
         match save_process(
             self.alloc,
             &mut self.machine,
