@@ -31,15 +31,9 @@ on_process p row registry = option_map_or (λ process. row process registry) (ge
 
 -- `load`: a process of a file, under the next number
 abbrev pub load_under : Option ℕ → List ℕ → Registry → Row
-load_under next file registry = record {
-  refusals = option_map Elf (file_refusal file) ∷ by_numbers_used next ∷ [];
-  memory = TakesFirst;
-  event = event.Load (number_in next) (load_pages file);
-  may_need_units = true;
-  flushes = None;
-  answer = Loaded (number_in next) (page_count file) (entry_address file);
-  after = draws (number_in next) (loaded_process file) registry;
-}
+load_under next file registry =
+    record (plain_row true None (option_map Elf (file_refusal file) ∷ by_numbers_used next ∷ []) (event.Load (number_in next) (load_pages file))
+    (draws (number_in next) (loaded_process file) registry)) { memory = TakesFirst; answer = Loaded (number_in next) (page_count file) (entry_address file) }
 
 abbrev pub load_row : List ℕ → Registry → Row
 load_row file registry = load_under (next_number registry) file registry
@@ -48,12 +42,7 @@ load_row file registry = load_under (next_number registry) file registry
 abbrev pub drop_row : ℕ → Process → Registry → Row
 drop_row p process registry =
     plain_row false (Some p) [] (event.Drop p)
-    (record {
-      processes = remove registry.processes p;
-      checkpoints = registry.checkpoints;
-      breakpoints = remove registry.breakpoints p;
-      drawn = registry.drawn;
-    })
+    (record registry { processes = remove registry.processes p; breakpoints = remove registry.breakpoints p })
 
 -- The changes, a row each, with the file that a command asks for. Compaction moves segments, which no state shows. Commands that take
 -- turns or print have no row of their own here: as changes they do nothing.

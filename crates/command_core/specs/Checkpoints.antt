@@ -10,7 +10,7 @@ use Rattle.overlay_memory.specs.declared.error.SpaceError.{SpaceError}
 use Rattle.overlay_memory.specs.declared.error.SpaceError.TheVariants.{Full, Memory}
 use Rattle.machine_core.specs.Process.{Process, is_speculating}
 use Rattle.machine_core.specs.Machine.{IsDropped, Machine, StaysBut, Wholes, has_space, spaces_of, wholes}
-use Rattle.report_text.specs.declared.answer.Answer.TheVariants.{Done, Saved}
+use Rattle.report_text.specs.declared.answer.Answer.TheVariants.{Saved}
 use Rattle.report_text.specs.declared.answer.Code.{Code}
 use Rattle.report_text.specs.declared.answer.Code.TheVariants.{NoCheckpoint}
 use Rattle.command_core.specs.State.{Checkpoint, Registry, next_number, process_of, whole_of}
@@ -42,15 +42,9 @@ checkpoint_refusals speculating found next = by_speculating speculating ∷ by_n
 
 -- `checkpoint`: the whole is kept, the last of all, with a copy of the process's pages in the ledger
 abbrev pub checkpoint_under : Option ℕ → ℕ → List ℕ → Process → Registry → Row
-checkpoint_under next p name process registry = record {
-  refusals = checkpoint_refusals (is_speculating process) (is_some (checkpoint_named name registry.checkpoints)) next;
-  memory = TakesLast;
-  event = Copy p (number_in next);
-  may_need_units = true;
-  flushes = None;
-  answer = Saved p name (number_in next);
-  after = saves (number_in next) name process registry;
-}
+checkpoint_under next p name process registry =
+    record (plain_row true None (checkpoint_refusals (is_speculating process) (is_some (checkpoint_named name registry.checkpoints)) next)
+    (Copy p (number_in next)) (saves (number_in next) name process registry)) { memory = TakesLast; answer = Saved p name (number_in next) }
 
 abbrev pub checkpoint_row : ℕ → List ℕ → Process → Registry → Row
 checkpoint_row p name process registry = checkpoint_under (next_number registry) p name process registry
@@ -67,15 +61,8 @@ abbrev pub restored : ℕ → Option Checkpoint → Registry → Registry
 restored p found registry = option_map_or (λ x. leaves p (process_of x.whole) registry) found registry
 
 abbrev pub restores : ℕ → Bool → Option Checkpoint → Registry → Row
-restores p speculating found registry = record {
-  refusals = restore_refusals speculating (is_some found);
-  memory = TakesLast;
-  event = restored_pages p found;
-  may_need_units = true;
-  flushes = Some p;
-  answer = Done;
-  after = restored p found registry;
-}
+restores p speculating found registry =
+    record (plain_row true (Some p) (restore_refusals speculating (is_some found)) (restored_pages p found) (restored p found registry)) { memory = TakesLast }
 
 -- `restore`: the process is what was kept, with a copy of the checkpoint's pages in the ledger in the place of its own
 abbrev pub restore_row : ℕ → List ℕ → Process → Registry → Row
@@ -88,25 +75,13 @@ on_checkpoint name row registry = option_map_or (λ x. row x registry) (checkpoi
 -- `forget`: the checkpoint goes, and its pages, of which nothing was translated; the others keep their order
 abbrev pub forget_row : List ℕ → Checkpoint → Registry → Row
 forget_row name x registry =
-    plain_row false (Some x.space) [] (event.Drop x.space)
-    (record {
-      processes = registry.processes;
-      checkpoints = checkpoints_but name registry.checkpoints;
-      breakpoints = registry.breakpoints;
-      drawn = registry.drawn;
-    })
+    plain_row false (Some x.space) [] (event.Drop x.space) (record registry { checkpoints = checkpoints_but name registry.checkpoints })
 
 -- What a checkpoint makes of a machine.
 
 -- the copying machine with a copy of the pages of a space
 abbrev pub with_pages_copied : ℕ → ℕ → Wholes → Wholes
-with_pages_copied from to state =
-    record {
-      processes = state.processes;
-      ledger = ledger_by (Copy from to) state.ledger;
-      frames = state.frames;
-      translations = state.translations;
-    }
+with_pages_copied from to state = record state { ledger = ledger_by (Copy from to) state.ledger }
 
 -- a machine with a space that has the memory of another one, and nothing else changed
 pub record IsSaved (from to : ℕ) (old new : Machine) : Type 0 where

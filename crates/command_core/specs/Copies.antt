@@ -12,7 +12,7 @@ use Rattle.machine_core.specs.Load.{IsAsBefore}
 use Rattle.report_text.specs.declared.answer.Answer.TheVariants.{Forked}
 use Rattle.report_text.specs.declared.answer.Code.{Code}
 use Rattle.command_core.specs.State.{Registry, next_number}
-use Rattle.command_core.specs.Rows.{Row, TakesLast, event_needs, first_refusal, flushed_by, is_event_full, ledger_by}
+use Rattle.command_core.specs.Rows.{Row, TakesLast, event_needs, first_refusal, flushed_by, is_event_full, ledger_by, plain_row}
 use Rattle.command_core.specs.Refusals.{by_ended, by_numbers_used, by_speculating, number_in}
 
 -- What a fork makes of a process that is there.
@@ -27,15 +27,9 @@ fork_refusals state speculating next = by_ended state ∷ by_speculating specula
 
 -- `fork`: the same process under the next number too, with a copy of its pages in the ledger
 abbrev pub fork_under : Option ℕ → ℕ → Process → Registry → Row
-fork_under next p process registry = record {
-  refusals = fork_refusals process.state (is_speculating process) next;
-  memory = TakesLast;
-  event = Copy p (number_in next);
-  may_need_units = true;
-  flushes = None;
-  answer = Forked p (number_in next);
-  after = draws (number_in next) process registry;
-}
+fork_under next p process registry =
+    record (plain_row true None (fork_refusals process.state (is_speculating process) next) (Copy p (number_in next)) (draws (number_in next) process registry))
+    { memory = TakesLast; answer = Forked p (number_in next) }
 
 abbrev pub fork_row : ℕ → Process → Registry → Row
 fork_row p process registry = fork_under (next_number registry) p process registry
@@ -58,10 +52,9 @@ CopyEnds from to old new Done (Err error) = CopyFails from to old new error
 
 -- the copying machine with a process under a number, and a copy of the pages of another one, where the translations of a process go
 abbrev pub with_process_copy : Option ℕ → ℕ → ℕ → Process → Wholes → Wholes
-with_process_copy flushes from to process state = record {
+with_process_copy flushes from to process state = record state {
   processes = insert state.processes to process;
   ledger = ledger_by (Copy from to) state.ledger;
-  frames = state.frames;
   translations = flushed_by flushes state.translations;
 }
 

@@ -33,7 +33,7 @@ fresh modes = record {
 }
 
 abbrev pub with_wholes : Wholes → State → State
-with_wholes wholes state = record { wholes = wholes; checkpoints = state.checkpoints; breakpoints = state.breakpoints; drawn = state.drawn }
+with_wholes wholes state = record state { wholes = wholes }
 
 -- What a command looks at and leaves: all of the state but the ledger, the frames and the translations. Those say only whether there are
 -- units enough, and what is counted.

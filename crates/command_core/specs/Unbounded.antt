@@ -30,15 +30,7 @@ pub record Unbounded : Type 0 where
   pub told : List (List ℕ)
 
 abbrev pub with_processes : Processes → Unbounded → Unbounded
-with_processes processes state = record {
-  registry = record {
-    processes = processes;
-    checkpoints = state.registry.checkpoints;
-    breakpoints = state.registry.breakpoints;
-    drawn = state.registry.drawn;
-  };
-  told = state.told;
-}
+with_processes processes state = record state { registry = record (state.registry) { processes = processes } }
 
 -- all turns that are left of a run
 abbrev pub unbounded_ran : Breaks → Processes → Progress → Ran Processes
@@ -53,7 +45,7 @@ takes_unbounded run state = record {
 
 -- A change: the first refusal, or the row's answer and what it leaves.
 abbrev pub does_row : Row → Unbounded → Changed Unbounded
-does_row row state = record { answer = row.answer; after = record { registry = row.after; told = state.told } }
+does_row row state = record { answer = row.answer; after = record state { registry = row.after } }
 
 abbrev pub change_unbounded : Row → Unbounded → Changed Unbounded
 change_unbounded row state = option_map_or (λ code. refuses code state) (first_refusal row.refusals) (does_row row state)
