@@ -130,16 +130,19 @@ fewer_left old new none still turns more within =
     omega (arith, before, after, turns, more, within)
 
 -- as behind a turn that is counted, or that isn't
-pub fewer_counted : (p n : ℕ) (t : Turn) (old new : InRun) → old.stop ≡ None → old.run.taken + n < old.run.turns → new ≡ run_counted t p (run_took n p old.run)
-    → (lines_left new < lines_left old) × (new.run.turns ≡ old.run.turns)
-fewer_counted p n t old new none below is =
-    subst (λ (x : InRun). (lines_left x < lines_left old) × (x.run.turns ≡ old.run.turns)) (sym is) (by_full (is_full_turn t))
+abbrev pub HasFewer : InRun → InRun → Type 0
+HasFewer old new = (lines_left new < lines_left old) × (new.run.turns ≡ old.run.turns)
+
+pub fewer_counted : (p n : ℕ) (t : Turn) (old new : InRun) → old.stop ≡ None → old.run.taken + n < old.run.turns → new ≡ run_counted t p (run_took n p old.run) → HasFewer old new
+fewer_counted p n t old new none below is = subst (HasFewer old) (sym is) (by_full (is_full_turn t))
   where
-    by_full : (b : Bool) → (lines_left (cond b (record { run = run_took n p old.run; stop = Some Full }) (record { run = run_after p (run_took n p old.run); stop = None })) < lines_left old)
-        × ((cond b (record { run = run_took n p old.run; stop = Some Full }) (record { run = run_after p (run_took n p old.run); stop = None })).run.turns ≡ old.run.turns)
-    by_full true =
+    some_left : 0 < lines_left old
+    some_left =
         let before : lines_left old ≡ old.run.turns - old.run.taken + 1 = ap (λ (o : Option Stop). option_map_or (λ s. 0) o (old.run.turns - old.run.taken + 1)) none in
-        (omega (arith, before), refl)
+        omega (arith, before)
+
+    by_full : (b : Bool) → HasFewer old (cond b (record { run = run_took n p old.run; stop = Some Full }) (record { run = run_after p (run_took n p old.run); stop = None }))
+    by_full true = (some_left, refl)
     by_full false = (fewer_left old (record { run = run_after p (run_took n p old.run); stop = None }) none refl refl (omega arith) (omega (arith, below)), refl)
 
 -- what is found at the end of a run

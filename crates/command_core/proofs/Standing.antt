@@ -134,7 +134,7 @@ speaks_as old new running after line (text, left) rest state stands =
 
 pub ends_as : (old new : InSession) (running after : InRun) → ends_run running after old.state new.state → KeepsRest old new
     → TurnsAs (ends_run running after) old new
-ends_as old new running after (stop, found, text, left) rest state stands =
+ends_as old new running after (stop, found, said) rest state stands =
     let a = old.state.wholes in
     let b = state.wholes in
     let breaks = old.state.breakpoints in (
@@ -146,7 +146,9 @@ ends_as old new running after (stop, found, text, left) rest state stands =
       subst (λ (bs : Breaks). EndsRun bs b running new.state.wholes after) stands.breakpoints (
         stop,
         found,
-        same_text breaks a b running stands.wholes ∙ text,
-        like_chain (left_of breaks b running).after (left_of breaks a running).after new.state.wholes (same_after breaks a b running stands.wholes) left,
+        (
+          same_text breaks a b running stands.wholes ∙ said.0,
+          like_chain (left_of breaks b running).after (left_of breaks a running).after new.state.wholes (same_after breaks a b running stands.wholes) said.1,
+        ),
       ),
     )
