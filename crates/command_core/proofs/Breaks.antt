@@ -42,8 +42,8 @@ none_removed breaks p none = alike _ _ (λ q. by_key q p
 
 -- No number above those drawn has breakpoints: with one number more drawn, where a process gives up those that it has, and where one that
 -- is there gets others.
-pub above_more : (breaks : Breaks) (drawn : ℕ) → NoBreaksAbove drawn breaks → NoBreaksAbove (drawn + 1) breaks
-above_more breaks drawn none p above = none p (omega (arith, above))
+pub above_more : (breaks : Breaks) (drawn n : ℕ) → drawn < n → NoBreaksAbove drawn breaks → NoBreaksAbove n breaks
+above_more breaks drawn n more none p above = none p (omega (arith, more, above))
 
 pub above_removed : (breaks : Breaks) (drawn p : ℕ) → NoBreaksAbove drawn breaks → NoBreaksAbove drawn (remove breaks p)
 above_removed breaks drawn p none q above = by_key q p

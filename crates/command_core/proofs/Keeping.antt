@@ -28,9 +28,9 @@ pub rise_on : (above : ℕ) (qs : List ℕ) (last more : ℕ) → last ≤ more 
 rise_on above [] last more le rise = omega (arith, le, rise)
 rise_on above (q ∷ qs) last more le rise = (rise.0, rise_on q qs last more le rise.1)
 
-pub rise_more : (above : ℕ) (qs : List ℕ) (last : ℕ) → RiseTo above qs last → RiseTo above (qs ++ ((last + 1) ∷ [])) (last + 1)
-rise_more above [] last rise = (omega (arith, rise), omega arith)
-rise_more above (q ∷ qs) last rise = (rise.0, rise_more q qs last rise.1)
+pub rise_more : (above : ℕ) (qs : List ℕ) (last more : ℕ) → last < more → RiseTo above qs last → RiseTo above (qs ++ (more ∷ [])) more
+rise_more above [] last more over rise = (omega (arith, rise, over), omega arith)
+rise_more above (q ∷ qs) last more over rise = (rise.0, rise_more q qs last more over rise.1)
 
 rise_below : (above below : ℕ) (qs : List ℕ) (last : ℕ) → below ≤ above → RiseTo above qs last → RiseTo below qs last
 rise_below above below [] last le rise = omega (arith, le, rise)

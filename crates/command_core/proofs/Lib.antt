@@ -19,5 +19,4 @@ pub mod Registers
 pub mod Debugging
 pub mod Bytes
 pub mod Stores
-pub mod Stills
 pub mod Wanting

@@ -4,7 +4,6 @@ use Rattle.std.specs.Prelude.{Ok, Err}
 use Rattle.std.specs.Option.{option_map}
 use Rattle.std.specs.FinMap.{get, insert}
 use Rattle.number_maps.specs.Keys.{get_same}
-use Rattle.sizes.specs.declared.TheConstants.{LAST_SPACE}
 use Rattle.elf_loader.specs.Accepted.{file_refusal}
 use Rattle.elf_loader.specs.Fields.{entry_address}
 use Rattle.elf_loader.specs.declared.image.ElfError.{ElfError}
@@ -16,12 +15,12 @@ use Rattle.machine_core.specs.Load.{Loads, is_load_full, load_needs, load_pages,
 use Rattle.machine_core.specs.LoadLaws.{same_wholes}
 use Rattle.report_text.specs.declared.answer.Answer.TheVariants.{Loaded, Refused}
 use Rattle.report_text.specs.declared.answer.Code.TheVariants.{Elf, NumbersUsed}
-use Rattle.command_core.specs.State.{AreLikeStates, Checkpoint, State, registry_of}
+use Rattle.command_core.specs.State.{AreLikeStates, Checkpoint, State, number_after, registry_of}
 use Rattle.command_core.specs.Sessions.{KeepsSession, session_state}
-use Rattle.command_core.specs.Rows.{Row, change_by, event_needs, first_refusal, is_event_full, ledger_by, refused_if}
+use Rattle.command_core.specs.Rows.{Row, change_by, event_needs, first_refusal, is_event_full, ledger_by}
 use Rattle.command_core.specs.Giving.{ComesTo, GivesChange}
 use Rattle.command_core.specs.Refusals.{by_numbers_used}
-use Rattle.command_core.specs.Changes.{answer_of, load_row}
+use Rattle.command_core.specs.Changes.{answer_of, load_row, load_under}
 use Rattle.command_core.specs.Commands.{RunsLoaded}
 use Rattle.command_core.specs.LikeLaws.{states_itself}
 use Rattle.command_core.proofs.Breaks.{none_removed}
@@ -53,50 +52,54 @@ module _ (file : List ℕ) (s : State) where
   row = load_row file (registry_of s)
 
   by_file : (o : Option ElfError) → file_refusal file ≡ o
-      → first_refusal row.refusals ≡ first_refusal (option_map Elf o ∷ by_numbers_used s.drawn ∷ [])
-  by_file o is = ap (λ (o : Option ElfError). first_refusal (option_map Elf o ∷ by_numbers_used s.drawn ∷ [])) is
-
-  by_number : (all : Bool) → file_refusal file ≡ None → (s.drawn == LAST_SPACE) ≡ all → first_refusal row.refusals ≡ first_refusal (refused_if all NumbersUsed ∷ [])
-  by_number all taken is = by_file None taken ∙ ap (λ b. first_refusal (refused_if b NumbersUsed ∷ [])) is
+      → first_refusal row.refusals ≡ first_refusal (option_map Elf o ∷ by_numbers_used (number_after s.drawn) ∷ [])
+  by_file o is = ap (λ (o : Option ElfError). first_refusal (option_map Elf o ∷ by_numbers_used (number_after s.drawn) ∷ [])) is
 
   -- one that is refused
   pub comes_refused : (error : ElfError) → file_refusal file ≡ Some error → ComesTo (change_by row s) (Refused (Elf error)) s
   comes_refused error is = row_refused row s s (Elf error) (by_file (Some error) is) (states_itself s)
 
-  pub comes_used : file_refusal file ≡ None → (s.drawn == LAST_SPACE) ≡ true → ComesTo (change_by row s) (Refused NumbersUsed) s
-  comes_used taken all = row_refused row s s NumbersUsed (by_number true taken all) (states_itself s)
+  pub comes_used : file_refusal file ≡ None → number_after s.drawn ≡ None → ComesTo (change_by row s) (Refused NumbersUsed) s
+  comes_used taken none =
+      row_refused row s s NumbersUsed (by_file None taken ∙ ap (λ o. first_refusal (by_numbers_used o ∷ [])) none) (states_itself s)
 
 -- where a number is left, what the machine answers
-module _ (file : List ℕ) (old new : Machine) (kept : List Checkpoint) (breaks : Breaks) (drawn : ℕ) (taken : file_refusal file ≡ None)
-    (left : (drawn == LAST_SPACE) ≡ false) where
+module _ (file : List ℕ) (old new : Machine) (kept : List Checkpoint) (breaks : Breaks) (drawn p : ℕ) (taken : file_refusal file ≡ None)
+    (next : number_after drawn ≡ Some p) where
   abbrev before : State
   before = session_state old kept breaks drawn
 
-  none : first_refusal (row file before).refusals ≡ None
-  none = by_number file before false taken left
+  abbrev under : Row
+  under = load_under (Some p) file (registry_of before)
 
-  pub gives_loaded : get breaks (drawn + 1) ≡ None → (n entry : ℕ) → Loads (drawn + 1) file old new (Ok n) → entry ≡ entry_address file
-      → ComesTo (change_by (row file before) before) (Loaded (drawn + 1) n entry) (session_state new kept breaks (drawn + 1))
+  none : first_refusal under.refusals ≡ None
+  none = ap (λ (o : Option ElfError). first_refusal (option_map Elf o ∷ by_numbers_used (Some p) ∷ [])) taken
+
+  pub gives_loaded : get breaks p ≡ None → (n entry : ℕ) → Loads p file old new (Ok n) → entry ≡ entry_address file
+      → ComesTo (change_by (row file before) before) (Loaded p n entry) (session_state new kept breaks p)
   gives_loaded unbroken n entry (count, fits, loaded) is =
-      let enough = sym (load_full (drawn + 1) file (wholes old)) ∙ fits in
-      let comes = row_accepted (row file before) before (session_state new kept breaks (drawn + 1)) none enough
-      (record { wholes = like_accepted (drawn + 1) file (wholes new) (wholes old) loaded.like; checkpoints = refl; breakpoints = sym (none_removed breaks (drawn + 1) unbroken); drawn = refl }) in
-      record {
-        answer_is = ap (λ k. Loaded (drawn + 1) k entry) count ∙ ap (Loaded (drawn + 1) (page_count file)) is ∙ comes.answer_is;
+      let enough = sym (load_full p file (wholes old)) ∙ fits in
+      let comes = row_accepted under before (session_state new kept breaks p) none enough
+      (record { wholes = like_accepted p file (wholes new) (wholes old) loaded.like; checkpoints = refl; breakpoints = sym (none_removed breaks p unbroken); drawn = refl }) in
+      subst (λ o. ComesTo (change_by (load_under o file (registry_of before)) before) (Loaded p n entry) (session_state new kept breaks p)) (sym next) (record {
+        answer_is = ap (λ k. Loaded p k entry) count ∙ ap (Loaded p (page_count file)) is ∙ comes.answer_is;
         after_is = comes.after_is;
-      }
+      })
 
-  pub runs_loaded : (n entry : ℕ) → Loads (drawn + 1) file old new (Ok n) → RunsLoaded (Loaded (drawn + 1) n entry) (session_state new kept breaks (drawn + 1))
+  pub runs_loaded : (n entry : ℕ) → Loads p file old new (Ok n) → RunsLoaded (Loaded p n entry) (session_state new kept breaks p)
   runs_loaded n entry (count, fits, loaded) =
-      (loaded_process file, ap (λ (ps : Processes). get ps (drawn + 1)) loaded.like.processes ∙ get_same (wholes old).processes (drawn + 1) (drawn + 1) (loaded_process file) refl, refl)
+      (loaded_process file, ap (λ (ps : Processes). get ps p) loaded.like.processes ∙ get_same (wholes old).processes p p (loaded_process file) refl, refl)
 
-  pub gives_other : (e : SpaceError) → Loads (drawn + 1) file old new (Err e) → GivesChange (row file before) before (answer_of e) (session_state new kept breaks drawn)
-  gives_other (error.Full needed limit) (needed_is, limit_is, full, same) =
-      row_full (row file before) before (session_state new kept breaks drawn) needed limit none refl (sym (load_full (drawn + 1) file (wholes old)) ∙ full)
-      (needed_is ∙ load_needed (drawn + 1) file (wholes old)) limit_is (subst (λ (m : Machine). AreLikeStates (session_state m kept breaks drawn) before) (sym same) (states_itself before))
-  gives_other error.Memory (fits, same) = (refl, ap (λ (w : Wholes). record { wholes = w; checkpoints = kept; breakpoints = breaks; drawn = drawn }) (same_wholes old new same))
+  pub gives_other : (e : SpaceError) → Loads p file old new (Err e) → GivesChange (row file before) before (answer_of e) (session_state new kept breaks drawn)
+  gives_other e unmade = subst (λ o. GivesChange (load_under o file (registry_of before)) before (answer_of e) (session_state new kept breaks drawn)) (sym next) (by_error e unmade)
+    where
+      by_error : (e : SpaceError) → Loads p file old new (Err e) → GivesChange under before (answer_of e) (session_state new kept breaks drawn)
+      by_error (error.Full needed limit) (needed_is, limit_is, full, same) =
+          row_full under before (session_state new kept breaks drawn) needed limit none refl (sym (load_full p file (wholes old)) ∙ full)
+          (needed_is ∙ load_needed p file (wholes old)) limit_is (subst (λ (m : Machine). AreLikeStates (session_state m kept breaks drawn) before) (sym same) (states_itself before))
+      by_error error.Memory (fits, same) = (refl, ap (λ (w : Wholes). record { wholes = w; checkpoints = kept; breakpoints = breaks; drawn = drawn }) (same_wholes old new same))
 
-  pub session_other : (e : SpaceError) → Loads (drawn + 1) file old new (Err e) → KeepsSession old new
+  pub session_other : (e : SpaceError) → Loads p file old new (Err e) → KeepsSession old new
   session_other (error.Full needed limit) (needed_is, limit_is, full, same) = keeps_same old new same
   session_other error.Memory (fits, same) = keeps_before old new same
 

@@ -36,13 +36,13 @@ use Rattle.report_text.specs.declared.answer.Answer.TheVariants.{Done, Refused}
 use Rattle.report_text.specs.declared.answer.Code.{Code}
 use Rattle.report_text.specs.declared.answer.Code.TheVariants.{Mapped, Outside}
 use Rattle.translation_cache.specs.Translations.{flushed}
-use Rattle.command_core.specs.declared.overlays.OverlayChange.TheVariants.{Map, Unmap}
+use Rattle.command_core.specs.declared.process_changes.ProcessChange.TheVariants.{Map, Unmap}
 use Rattle.command_core.specs.State.{Registry}
 use Rattle.command_core.specs.Sessions.{KeepsSession}
 use Rattle.command_core.specs.Rows.{Row, first_refusal}
 use Rattle.command_core.specs.Refusals.{are_too_many, has_page, lacks_page, lie_outside, lowest, map_refusals, place_refusals, unmap_refusals}
 use Rattle.command_core.specs.Mapping.{FindsGap, FindsMapped, RefusesMap, RefusesUnmap}
-use Rattle.command_core.specs.Overlays.{ChangesOverlays, overlay_row, pages_gone, pages_mapped, with_pages}
+use Rattle.command_core.specs.ProcessChanges.{ChangesProcess, process_row, pages_gone, pages_mapped, with_pages}
 use Rattle.command_core.proofs.Rows.{machine_done, machine_refused}
 use Rattle.command_core.proofs.Speculating.{kept_before, kept_by, put_again, saved_here, speculates, stays, wholes_are, wholes_left}
 
@@ -317,12 +317,12 @@ module _ (p : ℕ) (process : declared.Process) (old : Machine) (memory : Transl
 
   -- the refusal is that of the row
   map_refusal_is : (address n : ℕ) (perms : Perms) (o : Option Code) → o ≡ first_refusal (map_refusals address n (is_marked old p) (memory_of (spaces_of old) p))
-      → (r : Registry) → first_refusal (overlay_row p (Map address n perms) before r).refusals ≡ o
+      → (r : Registry) → first_refusal (process_row p (Map address n perms) before r).refusals ≡ o
   map_refusal_is address n perms o is r =
       ap (λ b. first_refusal (map_refusals address n b (memory_of (spaces_of old) p))) (speculates p process old memory there (is_marked old p) refl) ∙ sym is
 
   unmap_refusal_is : (address n : ℕ) (o : Option Code) → o ≡ first_refusal (unmap_refusals address n (is_marked old p) (memory_of (spaces_of old) p))
-      → (r : Registry) → first_refusal (overlay_row p (Unmap address n) before r).refusals ≡ o
+      → (r : Registry) → first_refusal (process_row p (Unmap address n) before r).refusals ≡ o
   unmap_refusal_is address n o is r =
       ap (λ b. first_refusal (unmap_refusals address n b (memory_of (spaces_of old) p))) (speculates p process old memory there (is_marked old p) refl) ∙ sym is
 
@@ -337,11 +337,11 @@ module _ (p : ℕ) (process : declared.Process) (old : Machine) (memory : Transl
 
     module _ (perms : Perms) where
       abbrev maps : Registry → Row
-      maps = overlay_row p (Map address n perms) before
+      maps = process_row p (Map address n perms) before
 
       pub mapped : holds_space (spaces_of old) p ≡ true → RefusesMap (spaces_of old) p address n None
           → state_of memory ≡ with_zeros (spaces_of old) p page n (record { perms = perms; frame = (spaces_of old).zero_frame })
-          → translations_of memory ≡ flushed p (lists_of old) → ChangesOverlays p (Map address n perms) process old Done mid
+          → translations_of memory ≡ flushed p (lists_of old) → ChangesProcess p (Map address n perms) process old Done mid
       mapped here (is, free) put lists =
           let e = event.Map p page n in
           let left = pages_mapped perms.0 page n (memory_of (spaces_of old) p) in
@@ -350,14 +350,14 @@ module _ (p : ℕ) (process : declared.Process) (old : Machine) (memory : Transl
           machine_done maps old mid (map_refusal_is address n perms None is) (λ kept breaks drawn. refl) (λ r. refl) (λ kept breaks drawn. remade_like e left remade lists unmarked)
           (λ r. refl) (λ r. refl) (λ r. refl) (remade_stays e left remade lists unmarked)
 
-      pub map_refused : (code : Code) → RefusesMap (spaces_of old) p address n (Some code) → ChangesOverlays p (Map address n perms) process old (Refused code) old
+      pub map_refused : (code : Code) → RefusesMap (spaces_of old) p address n (Some code) → ChangesProcess p (Map address n perms) process old (Refused code) old
       map_refused code (is, told) = machine_refused maps old old code (map_refusal_is address n perms (Some code) is) refl
 
     abbrev gives_up : Registry → Row
-    gives_up = overlay_row p (Unmap address n) before
+    gives_up = process_row p (Unmap address n) before
 
     pub unmapped : holds_space (spaces_of old) p ≡ true → RefusesUnmap (spaces_of old) p address n None → state_of memory ≡ cut_pages (spaces_of old) p page n
-        → translations_of memory ≡ flushed p (lists_of old) → ChangesOverlays p (Unmap address n) process old Done mid
+        → translations_of memory ≡ flushed p (lists_of old) → ChangesProcess p (Unmap address n) process old Done mid
     unmapped here (is, all) cut lists =
         let e = event.Unmap p page n in
         let left = pages_gone page n (memory_of (spaces_of old) p) in
@@ -366,5 +366,5 @@ module _ (p : ℕ) (process : declared.Process) (old : Machine) (memory : Transl
         machine_done gives_up old mid (unmap_refusal_is address n None is) (λ kept breaks drawn. refl) (λ r. refl) (λ kept breaks drawn. remade_like e left remade lists unmarked)
         (λ r. refl) (λ r. refl) (λ r. refl) (remade_stays e left remade lists unmarked)
 
-    pub unmap_refused : (code : Code) → RefusesUnmap (spaces_of old) p address n (Some code) → ChangesOverlays p (Unmap address n) process old (Refused code) old
+    pub unmap_refused : (code : Code) → RefusesUnmap (spaces_of old) p address n (Some code) → ChangesProcess p (Unmap address n) process old (Refused code) old
     unmap_refused code (is, told) = machine_refused gives_up old old code (unmap_refusal_is address n (Some code) is) refl

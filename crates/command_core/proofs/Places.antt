@@ -1,4 +1,4 @@
-use Rattle.std.proofs.Common.{◌≡◌, ℕ, ◌+◌, ◌≤◌, ◌==◌, Bool, true, false, cond, sym, ap, subst, ◌∙◌, refl, arith, Option, Some, None, List, [], ◌∷◌, ◌++◌}
+use Rattle.std.proofs.Common.{◌≡◌, ℕ, ◌+◌, ◌<◌, ◌≤◌, Bool, true, false, cond, sym, ap, subst, ◌∙◌, refl, arith, nat_lt, Option, Some, None, List, [], ◌∷◌, ◌++◌}
 use Rattle.std.specs.Option.{is_some, option_map, option_map_or, unwrap_or}
 use Rattle.std.specs.List.{All, AllByRecursion}
 use Rattle.std.specs.Ordering.{nat_cmp}
@@ -11,7 +11,8 @@ use Rattle.sizes.specs.declared.TheConstants.{LAST_SPACE}
 use Rattle.overlay_pages.specs.Calls.{IsEmptyState}
 use Rattle.overlay_pages.specs.State.{SpaceState, State, base_of, books, held_page}
 use Rattle.translation_cache.specs.Translations.{no_translations}
-use Rattle.command_core.specs.State.{fresh}
+use Rattle.command_core.specs.declared.modes.Modes.{Modes}
+use Rattle.command_core.specs.State.{fresh, number_after}
 use Rattle.overlay_memory.specs.View.{state_of as spaces_in}
 use Rattle.overlay_memory.specs.View.{TranslatedView}
 use Rattle.space_maps.specs.Books.{books_empty}
@@ -120,7 +121,7 @@ session_kept old new spaces drawn is same = record {
   rise = is.rise;
 }
 
-module _ (machine : Machine) (frames : ℕ) (none : IsEmptyState frames (spaces_of machine)) (no_processes : machine.processes ≡ empty) where
+module _ (machine : Machine) (modes : Modes) (none : IsEmptyState modes.frames (spaces_of machine)) (no_processes : machine.processes ≡ empty) where
   no_space_yet : (p : ℕ) → get (spaces_of machine).spaces p ≡ None
   no_space_yet p = ap (λ m. get m p) none.spaces ∙ get-empty nat_cmp p
 
@@ -149,33 +150,33 @@ module _ (machine : Machine) (frames : ℕ) (none : IsEmptyState frames (spaces_
   unfolding bases_of
   no_bases = ap (viewed (λ p (_ : SpaceState). base_of (spaces_of machine) p)) none.spaces ∙ viewed_empty (λ p (_ : SpaceState). base_of (spaces_of machine) p)
 
-  pub wholes_start : lists_of machine ≡ no_translations → wholes machine ≡ (fresh frames).wholes
+  pub wholes_start : lists_of machine ≡ no_translations → wholes machine ≡ (fresh modes).wholes
   wholes_start no_lists = λ i. record { processes = no_wholes i; ledger = no_books i; frames = none.count i; translations = no_lists i }
 
 -- a free space isn't the next one
-not_next : (machine : Machine) (spaces : List ℕ) (drawn q : ℕ) → IsSession machine spaces drawn → HasNoProcess machine q → q ≡ drawn + 1 → ⊥
-not_next machine spaces drawn q is h same = let lacks = is.no_space q (omega (arith, same)) in let both : false ≡ true = sym lacks ∙ h.0 in cc
+not_next : (machine : Machine) (spaces : List ℕ) (drawn n q : ℕ) → IsSession machine spaces drawn → drawn < n → HasNoProcess machine q → q ≡ n → ⊥
+not_next machine spaces drawn n q is above h same = let lacks = is.no_space q (omega (arith, same, above)) in let both : false ≡ true = sym lacks ∙ h.0 in cc
 
 -- the next number has a space, and everything else is as it was
-module _ (old new : Machine) (spaces : List ℕ) (drawn : ℕ) (is : IsSession old spaces drawn) (below : drawn + 1 ≤ LAST_SPACE)
-    (there : has_space new (drawn + 1) ≡ true) (none_awaits : (space_in (spaces_of new) (drawn + 1)).awaiting ≡ empty)
-    (kept : is_marked new (drawn + 1) ≡ has_saved new (drawn + 1)) (others : StaysBut (drawn + 1) old new) where
+module _ (old new : Machine) (spaces : List ℕ) (drawn n : ℕ) (is : IsSession old spaces drawn) (above : drawn < n) (below : n ≤ LAST_SPACE)
+    (there : has_space new n ≡ true) (none_awaits : (space_in (spaces_of new) n).awaiting ≡ empty)
+    (kept : is_marked new n ≡ has_saved new n) (others : StaysBut n old new) where
   still_free : AllByRecursion (HasNoProcess new) spaces
   still_free = each (HasNoProcess old) (HasNoProcess new) spaces
-      (λ q h. let other = not_next old spaces drawn q is h in (others.there q other ∙ h.0, others.processes q other ∙ h.1)) is.free
+      (λ q h. let other = not_next old spaces drawn n q is above h in (others.there q other ∙ h.0, others.processes q other ∙ h.1)) is.free
 
-  drawn_next : (more : List ℕ) → AllByRecursion (HasNoProcess new) more → RiseTo 0 more (drawn + 1) → IsSession new more (drawn + 1)
+  drawn_next : (more : List ℕ) → AllByRecursion (HasNoProcess new) more → RiseTo 0 more n → IsSession new more n
   drawn_next more free rise = record {
     few = below;
-    no_space = λ p above. others.there p (λ same. omega (arith, above, same)) ∙ is.no_space p (omega (arith, above));
-    no_process = λ p above. others.processes p (λ same. omega (arith, above, same)) ∙ is.no_process p (omega (arith, above));
-    own_space = λ p some. by_key p (drawn + 1)
+    no_space = λ p over. others.there p (λ same. omega (arith, over, same)) ∙ is.no_space p (omega (arith, over, above));
+    no_process = λ p over. others.processes p (λ same. omega (arith, over, same)) ∙ is.no_process p (omega (arith, over, above));
+    own_space = λ p some. by_key p n
         (λ same. ap (has_space new) same ∙ there)
         (λ other. others.there p other ∙ is.own_space p (sym (ap is_some (others.processes p other)) ∙ some));
-    none_awaits = λ p. by_key p (drawn + 1)
+    none_awaits = λ p. by_key p n
         (λ same. ap (λ n. (space_in (spaces_of new) n).awaiting) same ∙ none_awaits)
         (λ other. ap (λ (x : SpaceState). x.awaiting) (others.spaces p other) ∙ is.none_awaits p);
-    kept = λ p. by_key p (drawn + 1)
+    kept = λ p. by_key p n
         (λ same. ap (is_marked new) same ∙ kept ∙ sym (ap (has_saved new) same))
         (λ other. ap (λ (x : SpaceState). x.speculating) (others.spaces p other) ∙ is.kept p ∙ sym (ap saved_of (others.processes p other)));
     free = free;
@@ -183,21 +184,21 @@ module _ (old new : Machine) (spaces : List ℕ) (drawn : ℕ) (is : IsSession o
   }
 
   -- a process's, or one without a process
-  pub session_more : IsSession new spaces (drawn + 1)
-  session_more = drawn_next spaces still_free (rise_on 0 spaces drawn (drawn + 1) (omega arith) is.rise)
+  pub session_more : IsSession new spaces n
+  session_more = drawn_next spaces still_free (rise_on 0 spaces drawn n (omega (arith, above)) is.rise)
 
-  pub session_saved : get new.processes (drawn + 1) ≡ None → IsSession new (spaces ++ ((drawn + 1) ∷ [])) (drawn + 1)
+  pub session_saved : get new.processes n ≡ None → IsSession new (spaces ++ (n ∷ [])) n
   session_saved none =
-      drawn_next (spaces ++ ((drawn + 1) ∷ [])) (each_more (HasNoProcess new) spaces (drawn + 1) still_free (there, none)) (rise_more 0 spaces drawn is.rise)
+      drawn_next (spaces ++ (n ∷ [])) (each_more (HasNoProcess new) spaces n still_free (there, none)) (rise_more 0 spaces drawn n above is.rise)
 
-pub session_load : (old new : Machine) (spaces : List ℕ) (drawn : ℕ) (file : List ℕ) → IsSession old spaces drawn → drawn + 1 ≤ LAST_SPACE → IsLoaded (drawn + 1) file old new
-    → IsSession new spaces (drawn + 1)
-session_load old new spaces drawn file is below loaded =
-    session_more old new spaces drawn is below loaded.there loaded.none_awaits
-    (mark_at new (drawn + 1) (loaded_process file)
-    (ap (λ (ps : Processes). get ps (drawn + 1)) loaded.like.processes ∙ get_same (wholes old).processes (drawn + 1) (drawn + 1) (loaded_process file) refl)
-    ∙ sym (ap saved_of (ap (λ (ps : FinMap nat_cmp declared.Process). get ps (drawn + 1)) loaded.processes
-    ∙ get_same old.processes (drawn + 1) (drawn + 1) (shown_process (loaded_process file)) refl)))
+pub session_load : (old new : Machine) (spaces : List ℕ) (drawn n : ℕ) (file : List ℕ) → IsSession old spaces drawn → drawn < n → n ≤ LAST_SPACE → IsLoaded n file old new
+    → IsSession new spaces n
+session_load old new spaces drawn n file is above below loaded =
+    session_more old new spaces drawn n is above below loaded.there loaded.none_awaits
+    (mark_at new n (loaded_process file)
+    (ap (λ (ps : Processes). get ps n) loaded.like.processes ∙ get_same (wholes old).processes n n (loaded_process file) refl)
+    ∙ sym (ap saved_of (ap (λ (ps : FinMap nat_cmp declared.Process). get ps n) loaded.processes
+    ∙ get_same old.processes n n (shown_process (loaded_process file)) refl)))
     loaded.others
 
 -- after want of memory
@@ -275,9 +276,9 @@ pub free_same : (old new : Machine) (spaces : List ℕ) → KeepsFree old new �
 free_same old new spaces free all = each (HasNoProcess old) (λ q. space_in (spaces_of new) q ≡ space_in (spaces_of old) q) spaces (λ q h. free q h.1) all
 
 -- where a space under the next number is made
-pub next_same : (old new : Machine) (spaces : List ℕ) (drawn : ℕ) → IsSession old spaces drawn → StaysBut (drawn + 1) old new → AreSame old new spaces
-next_same old new spaces drawn is others =
-    each (HasNoProcess old) (λ q. space_in (spaces_of new) q ≡ space_in (spaces_of old) q) spaces (λ q h. others.spaces q (not_next old spaces drawn q is h)) is.free
+pub next_same : (old new : Machine) (spaces : List ℕ) (drawn n : ℕ) → IsSession old spaces drawn → drawn < n → StaysBut n old new → AreSame old new spaces
+next_same old new spaces drawn n is above others =
+    each (HasNoProcess old) (λ q. space_in (spaces_of new) q ≡ space_in (spaces_of old) q) spaces (λ q h. others.spaces q (not_next old spaces drawn n q is above h)) is.free
 
 -- A process put where its space alone changed.
 module _ (old : Machine) (memory : TranslatedView) (p : ℕ) (others : (q : ℕ) → (q ≡ p → ⊥) → space_in (spaces_in memory) q ≡ space_in (spaces_of old) q) where
@@ -302,8 +303,13 @@ module _ (old : Machine) (memory : TranslatedView) (p : ℕ) (others : (q : ℕ)
       (λ other. others_by q other (get old.processes q))
       ∙ sym (processes_at old q))
 
--- a number is left
-pub is_below : (inside drawn : ℕ) (all : Bool) → inside ≡ drawn → all ≡ (drawn == LAST_SPACE) → all ≡ false → inside ≤ LAST_SPACE → inside + 1 ≤ LAST_SPACE
-is_below inside drawn all same is none few =
-    let other : (inside == LAST_SPACE) ≡ false = ap (λ n. n == LAST_SPACE) same ∙ sym is ∙ none in
-    grind (arith, nat_tests, other, few)
+-- the next number is above those drawn, and one of a space
+pub free_number : (drawn n : ℕ) → number_after drawn ≡ Some n → (drawn < n) × (n ≤ LAST_SPACE)
+free_number drawn n is = by_test (nat_lt drawn LAST_SPACE) refl is
+  where
+    by_test : (b : Bool) → nat_lt drawn LAST_SPACE ≡ b → cond b (Some (drawn + 1)) None ≡ Some n → (drawn < n) × (n ≤ LAST_SPACE)
+    by_test true left same =
+        let next : drawn + 1 ≡ n = cc in
+        let below : drawn < LAST_SPACE = grind (arith, nat_tests, left) in
+        (omega (arith, next), omega (arith, next, below))
+    by_test false none same = cc

@@ -3,18 +3,17 @@ use Rattle.std.specs.Option.{option_map_or, option_or}
 use Rattle.std.proofs.lemmas.Bool.Decides.{nat_tests}
 use Rattle.std.specs.Prelude.{flat_map}
 use Rattle.ovl_io.specs.declared.turn.Turn.{Turn}
-use Rattle.ovl_io.specs.declared.turn.Turn.TheVariants as turn
 use Rattle.breakpoints.specs.Breakpoints.{Breaks}
 use Rattle.machine_core.specs.Machine.{AreLike, Wholes}
-use Rattle.machine_core.specs.Laws.{like_itself}
+use Rattle.machine_core.specs.Laws.{like_back, like_chain, like_itself}
 use Rattle.machine_core.specs.Turns.{after_turn, turn_of}
 use Rattle.machine_core.specs.Ample.{is_full_turn}
 use Rattle.command_core.specs.declared.turns.Order.{Order}
 use Rattle.report_text.specs.declared.answer.Stop.{Stop}
 use Rattle.report_text.specs.declared.answer.Stop.TheVariants.{Full, Limit}
 use Rattle.report_text.specs.Answers.{turn_text, stop_text}
-use Rattle.command_core.specs.LikeLaws.{ran_ended, ran_more}
-use Rattle.command_core.specs.Turns.{EndsRun, InRun, Progress, Ran, Speaks, ending, ending_by, event_then, first_event, last_break, left_by, left_of, lines_left, next_of, ran, ran_from, ran_text, rest_of, run_after, stopped, turns_by}
+use Rattle.command_core.specs.LikeLaws.{AreLikeRans, like_left, like_text, ran_ended, ran_more}
+use Rattle.command_core.specs.Turns.{EndsRun, InRun, Progress, Ran, SaysThen, Speaks, ending, ending_by, event_then, first_event, last_break, left_by, left_of, lines_left, next_of, ran, ran_from, ran_text, rest_of, run_after, run_counted, run_took, stopped, turns_by}
 
 -- Turns, one after the other.
 
@@ -41,54 +40,41 @@ ran_first breaks processes run p unbroken below next =
     ∙ ran_more breaks processes run unbroken (run.turns - (run.taken + 1))
     ∙ ap (λ n. turns_by (turn_of processes) (after_turn processes) n (λ q. ran breaks (run.turns - (run.taken + 1)) (after_turn processes q) (run_after q run)) processes run) next
 
--- one that isn't answered Full is counted
-goes_on : (p : ℕ) (t : Turn) (others : Ran Wholes) (processes : Wholes) (run : Progress) → is_full_turn t ≡ false → event_then p t others processes run ≡ first_event p t others
-goes_on p turn.Stepped others processes run counted = refl
-goes_on p (turn.Wrote written) others processes run counted = refl
-goes_on p (turn.Exited code) others processes run counted = refl
-goes_on p (turn.Faulted kind at) others processes run counted = refl
-goes_on p (turn.Full units limit) others processes run counted = cc
+pub same_like : (a b : Wholes) → a ≡ b → AreLike a b
+same_like a b same = subst (AreLike a) same (like_itself a)
 
--- the first of some turns, where it is counted
-pub ran_counted : (breaks : Breaks) (processes : Wholes) (run : Progress) (p : ℕ) → last_break breaks processes run ≡ None → run.taken < run.turns → next_of processes run.order ≡ Some p → is_full_turn (turn_of processes p) ≡ false
-    → ran_from breaks processes run ≡ first_event p (turn_of processes p) (ran_from breaks (after_turn processes p) (run_after p run))
-ran_counted breaks processes run p unbroken below next counted =
-    ran_first breaks processes run p unbroken below next
-    ∙ goes_on p (turn_of processes p) (ran_from breaks (after_turn processes p) (run_after p run)) (after_turn processes p) run counted
+-- What is said first, and then what others say.
 
--- one that is answered Full is the last
-pub ran_full : (breaks : Breaks) (processes : Wholes) (run : Progress) (p units limit : ℕ) → last_break breaks processes run ≡ None → run.taken < run.turns → next_of processes run.order ≡ Some p → turn_of processes p ≡ turn.Full units limit
-    → ran_from breaks processes run ≡ first_event p (turn.Full units limit) (stopped Full (after_turn processes p) run)
-ran_full breaks processes run p units limit unbroken below next full =
-    ran_first breaks processes run p unbroken below next
-    ∙ ap (λ t. event_then p t (ran_from breaks (after_turn processes p) (run_after p run)) (after_turn processes p) run) full
+pub said_none : (r : Ran Wholes) → SaysThen [] r r
+said_none r = (refl, like_itself r.after)
 
-pub text_first : (p : ℕ) (turn : Turn) (others : Ran Wholes) → ran_text (first_event p turn others) ≡ turn_text p turn ++ ran_text others
-text_first p turn others =
-    append_assoc (turn_text p turn) (flat_map (λ event. turn_text event.0 event.1) others.events) (stop_text others.taken others.stop)
+pub said_like : (r s : Ran Wholes) → AreLikeRans r s → SaysThen [] r s
+said_like r s like = (like_text r s like, like.after)
 
--- a turn that has a line, and one that has none
-pub ran_says : (breaks : Breaks) (processes after : Wholes) (run : Progress) (p : ℕ) (line : List ℕ) → last_break breaks processes run ≡ None → run.taken < run.turns → next_of processes run.order ≡ Some p
-    → is_full_turn (turn_of processes p) ≡ false → line ≡ turn_text p (turn_of processes p) → after ≡ after_turn processes p
-    → ran_text (ran_from breaks processes run) ≡ line ++ ran_text (ran_from breaks after (run_after p run))
-ran_says breaks processes after run p line unbroken below next counted says altered =
-    ap ran_text (ran_counted breaks processes run p unbroken below next counted)
-    ∙ text_first p (turn_of processes p) (ran_from breaks (after_turn processes p) (run_after p run))
-    ∙ ap (λ bs. bs ++ ran_text (ran_from breaks (after_turn processes p) (run_after p run))) (sym says)
-    ∙ ap (λ (ps : Wholes). line ++ ran_text (ran_from breaks ps (run_after p run))) (sym altered)
+pub said_then : (line : List ℕ) (r s t : Ran Wholes) → SaysThen [] r s → SaysThen line s t → SaysThen line r t
+said_then line r s t h k = (h.0 ∙ k.0, like_chain r.after s.after t.after h.1 k.1)
 
-pub ran_quiet : (breaks : Breaks) (processes after : Wholes) (run : Progress) (p : ℕ) → last_break breaks processes run ≡ None → run.taken < run.turns → next_of processes run.order ≡ Some p
-    → is_full_turn (turn_of processes p) ≡ false → turn_text p (turn_of processes p) ≡ [] → after ≡ after_turn processes p
-    → ran_text (ran_from breaks processes run) ≡ ran_text (ran_from breaks after (run_after p run))
-ran_quiet breaks processes after run p unbroken below next counted quiet altered =
-    ran_says breaks processes after run p [] unbroken below next counted (sym quiet) altered
+said_first : (p : ℕ) (turn : Turn) (r s : Ran Wholes) → AreLikeRans r s → SaysThen (turn_text p turn) (first_event p turn r) s
+said_first p turn r s like =
+    (append_assoc (turn_text p turn) (flat_map (λ event. turn_text event.0 event.1) r.events) (stop_text r.taken r.stop)
+    ∙ ap (λ bs. turn_text p turn ++ bs) (like_text r s like), like.after)
 
-pub ran_after : (breaks : Breaks) (processes after : Wholes) (run : Progress) (p : ℕ) → last_break breaks processes run ≡ None → run.taken < run.turns → next_of processes run.order ≡ Some p
-    → is_full_turn (turn_of processes p) ≡ false → after ≡ after_turn processes p
-    → (ran_from breaks processes run).after ≡ (ran_from breaks after (run_after p run)).after
-ran_after breaks processes after run p unbroken below next counted altered =
-    ap (λ (r : Ran Wholes). r.after) (ran_counted breaks processes run p unbroken below next counted)
-    ∙ ap (λ (ps : Wholes). (ran_from breaks ps (run_after p run)).after) (sym altered)
+-- A turn, and what is left behind it.
+pub turn_said : (breaks : Breaks) (old new : Wholes) (run : Progress) (p : ℕ) (t : Turn) → last_break breaks old run ≡ None → run.taken < run.turns → next_of old run.order ≡ Some p
+    → t ≡ turn_of old p → AreLike new (after_turn old p) → SaysThen (turn_text p t) (ran_from breaks old run) (left_of breaks new (run_counted t p run))
+turn_said breaks old new run p t unbroken below next is like =
+    let left = after_turn old p in
+    let first = ran_first breaks old run p unbroken below next ∙ ap (λ t. event_then p t (ran_from breaks left (run_after p run)) left run) (sym is) in
+    subst (λ (r : Ran Wholes). SaysThen (turn_text p t) r (left_of breaks new (run_counted t p run))) (sym first)
+    (said_first p t _ _ (by_full (is_full_turn t)))
+  where
+    back : AreLike (after_turn old p) new
+    back = like_back new (after_turn old p) like
+
+    by_full : (b : Bool) → AreLikeRans (cond b (stopped Full (after_turn old p) run) (ran_from breaks (after_turn old p) (run_after p run)))
+        (left_of breaks new (cond b (record { run = run; stop = Some Full }) (record { run = run_after p run; stop = None })))
+    by_full true = like_left breaks (after_turn old p) new (record { run = run; stop = Some Full }) back
+    by_full false = like_left breaks (after_turn old p) new (record { run = run_after p run; stop = None }) back
 
 -- an ending holds where no process has the next turn, or none is left to be taken
 pub has_ending : (next : Option ℕ) (run : Progress) → (next ≡ None) ⊎ (nat_lt run.taken run.turns ≡ false) → run.taken ≤ run.turns
@@ -124,29 +110,16 @@ has_ended breaks processes run (inr (unbroken, why)) below =
 pub left_all : (breaks : Breaks) (processes : Wholes) (running : InRun) → running.stop ≡ None → left_of breaks processes running ≡ ran_from breaks processes running.run
 left_all breaks processes running none = ap (λ (o : Option Stop). left_by o breaks processes running.run) none
 
-pub same_like : (a b : Wholes) → a ≡ b → AreLike a b
-same_like a b same = subst (AreLike a) same (like_itself a)
+-- a run of which no ending was found, with the state and the run that it came to
+pub speaks_by : (breaks : Breaks) (old new : Wholes) (running after counted : InRun) (line said : List ℕ) → running.stop ≡ None → after ≡ counted → line ≡ said
+    → SaysThen said (ran_from breaks old running.run) (left_of breaks new counted) → Speaks breaks old running line new after
+speaks_by breaks old new running after counted line said none is says h =
+    subst (λ bs. SaysThen bs (left_of breaks old running) (left_of breaks new after)) (sym says)
+    (subst (λ (x : InRun). SaysThen said (left_of breaks old running) (left_of breaks new x)) (sym is)
+    (subst (λ (r : Ran Wholes). SaysThen said r (left_of breaks new counted)) (sym (left_all breaks old running none)) h))
 
--- a line, and then what is left of a run that goes on, and of one that has ended
-pub speaks_on : (breaks : Breaks) (old new : Wholes) (running after : InRun) (line : List ℕ) → running.stop ≡ None → after.stop ≡ None
-    → (ran_text (ran_from breaks old running.run) ≡ line ++ ran_text (ran_from breaks new after.run)) × ((ran_from breaks old running.run).after ≡ (ran_from breaks new after.run).after)
-    → Speaks breaks old running line new after
-speaks_on breaks old new running after line none still (text, left) =
-    let before = left_all breaks old running none in
-    let behind = left_all breaks new after still in (
-      ap ran_text before ∙ text ∙ ap (λ r. line ++ ran_text r) (sym behind),
-      same_like _ _ (ap (λ (r : Ran Wholes). r.after) before ∙ left ∙ ap (λ (r : Ran Wholes). r.after) (sym behind)),
-    )
-
-pub speaks_last : (breaks : Breaks) (old new : Wholes) (running after : InRun) (line : List ℕ) (stop : Stop) → running.stop ≡ None → after.stop ≡ Some stop
-    → (ran_text (ran_from breaks old running.run) ≡ line ++ ran_text (stopped stop new after.run)) × ((ran_from breaks old running.run).after ≡ new)
-    → Speaks breaks old running line new after
-speaks_last breaks old new running after line stop none ended (text, left) =
-    let before = left_all breaks old running none in
-    let behind = ap (λ (o : Option Stop). left_by o breaks new after.run) ended in (
-      ap ran_text before ∙ text ∙ ap (λ r. line ++ ran_text r) (sym behind),
-      same_like _ _ (ap (λ (r : Ran Wholes). r.after) before ∙ left ∙ ap (λ (r : Ran Wholes). r.after) (sym behind)),
-    )
+pub none_stopped : (after : InRun) (run : Progress) (stop : Option Stop) → after ≡ record { run = run; stop = stop } → stop ≡ None → after ≡ record { run = run; stop = None }
+none_stopped after run stop is none = is ∙ ap (λ (o : Option Stop). record { run = run; stop = o }) none
 
 -- fewer lines are left
 pub fewer_left : (old new : InRun) → old.stop ≡ None → new.stop ≡ None → new.run.turns ≡ old.run.turns → old.run.taken < new.run.taken → new.run.taken ≤ new.run.turns
@@ -156,22 +129,36 @@ fewer_left old new none still turns more within =
     let after : lines_left new ≡ new.run.turns - new.run.taken + 1 = ap (λ (o : Option Stop). option_map_or (λ s. 0) o (new.run.turns - new.run.taken + 1)) still in
     omega (arith, before, after, turns, more, within)
 
+-- as behind a turn that is counted, or that isn't
+abbrev pub HasFewer : InRun → InRun → Type 0
+HasFewer old new = (lines_left new < lines_left old) × (new.run.turns ≡ old.run.turns)
+
+pub fewer_counted : (p n : ℕ) (t : Turn) (old new : InRun) → old.stop ≡ None → old.run.taken + n < old.run.turns → new ≡ run_counted t p (run_took n p old.run) → HasFewer old new
+fewer_counted p n t old new none below is = subst (HasFewer old) (sym is) (by_full (is_full_turn t))
+  where
+    some_left : 0 < lines_left old
+    some_left =
+        let before : lines_left old ≡ old.run.turns - old.run.taken + 1 = ap (λ (o : Option Stop). option_map_or (λ s. 0) o (old.run.turns - old.run.taken + 1)) none in
+        omega (arith, before)
+
+    by_full : (b : Bool) → HasFewer old (cond b (record { run = run_took n p old.run; stop = Some Full }) (record { run = run_after p (run_took n p old.run); stop = None }))
+    by_full true = (some_left, refl)
+    by_full false = (fewer_left old (record { run = run_after p (run_took n p old.run); stop = None }) none refl refl (omega arith) (omega (arith, below)), refl)
+
 -- what is found at the end of a run
-pub run_ended : (breaks : Breaks) (start processes : Wholes) (first : InRun) (run : Progress) (found : Option Stop) → first.stop ≡ None → found ≡ ending breaks processes run
-    → ran_text (ran_from breaks start first.run) ≡ ran_text (ran_from breaks processes run) → (ran_from breaks start first.run).after ≡ (ran_from breaks processes run).after
-    → WhyEnded breaks processes run → run.taken ≤ run.turns
-    → EndsRun breaks start first processes (record { run = run; stop = found })
-run_ended breaks start processes first run found none is text after why below =
-    let ends = has_ended breaks processes run why below in
-    let all = ran_ended breaks processes run ends.0 below ends.1 in
-    let left = left_all breaks start first none in
-    (ends.0, is ∙ ends.1, ap ran_text left ∙ text ∙ ap ran_text all, same_like _ _ (ap (λ (r : Ran Wholes). r.after) left ∙ after ∙ ap (λ (r : Ran Wholes). r.after) all))
+pub run_ended : (breaks : Breaks) (start processes : Wholes) (first now : InRun) (found : Option Stop) → now.stop ≡ None → found ≡ ending breaks processes now.run
+    → Speaks breaks start first [] processes now → WhyEnded breaks processes now.run → now.run.taken ≤ now.run.turns
+    → EndsRun breaks start first processes (record { run = now.run; stop = found })
+run_ended breaks start processes first now found none is said why below =
+    let ends = has_ended breaks processes now.run why below in
+    let all = left_all breaks processes now none ∙ ran_ended breaks processes now.run ends.0 below ends.1 in
+    (ends.0, is ∙ ends.1, subst (λ (r : Ran Wholes). SaysThen [] (left_of breaks start first) r) all said)
 
 -- one that had ended before
 pub ended_before : (breaks : Breaks) (processes : Wholes) (running : InRun) (stop : Stop) → running.stop ≡ Some stop → EndsRun breaks processes running processes running
 ended_before breaks processes running stop is =
     let left = ap (λ (o : Option Stop). left_by o breaks processes running.run) is in
-    (stop, is, ap ran_text left, same_like _ _ (ap (λ (r : Ran Wholes). r.after) left))
+    (stop, is, subst (λ (r : Ran Wholes). SaysThen [] (left_of breaks processes running) r) left (said_none (left_of breaks processes running)))
 
 pub limit_is : (processes : Wholes) (run : Progress) (p : ℕ) → next_of processes run.order ≡ Some p → nat_lt run.taken run.turns ≡ false
     → run.taken ≤ run.turns → Some Limit ≡ ending_by (next_of processes run.order) run

@@ -8,8 +8,8 @@ use Rattle.machine_core.specs.Process.{Process}
 use Rattle.machine_core.specs.declared.process.Process as declared
 use Rattle.machine_core.specs.Machine.{Machine, spaces_of, whole_in, with_process_at}
 use Rattle.report_text.specs.declared.answer.Answer.TheVariants.{Done}
-use Rattle.command_core.specs.declared.overlays.OverlayChange.TheVariants.{Set}
-use Rattle.command_core.specs.Overlays.{ChangesOverlays, after_set, overlay_row, set_register}
+use Rattle.command_core.specs.declared.process_changes.ProcessChange.TheVariants.{Set}
+use Rattle.command_core.specs.ProcessChanges.{ChangesProcess, after_set, process_row, set_register}
 use Rattle.command_core.proofs.Rows.{machine_done}
 use Rattle.command_core.proofs.Speculating.{saved_here, stays, wholes_are}
 
@@ -26,9 +26,9 @@ module _ (p register value : ℕ) (process : declared.Process) (old : Machine) (
   put_is : whole_in (spaces_of old) p put ≡ after_set register value before
   put_is = ap (λ (r : Registers). record { registers = r; state = process.state; memory = before.memory; kept = before.kept }) same
 
-  pub register_set : ChangesOverlays p (Set register value) process old Done (with_process_at old p put)
+  pub register_set : ChangesProcess p (Set register value) process old Done (with_process_at old p put)
   register_set =
-      machine_done (overlay_row p (Set register value) before) old (with_process_at old p put) (λ r. refl) (λ kept breaks drawn. refl) (λ r. refl)
+      machine_done (process_row p (Set register value) before) old (with_process_at old p put) (λ r. refl) (λ kept breaks drawn. refl) (λ r. refl)
       (λ kept breaks drawn. wholes_are p process old old.memory there event.Other put (after_set register value before) put_is (λ q other. refl) None (alike_itself (books (spaces_of old))) refl refl)
       (λ r. refl) (λ r. refl) (λ r. refl)
       (stays p process old old.memory there event.Other put (after_set register value before) put_is (λ q other. refl) (λ q. refl) refl

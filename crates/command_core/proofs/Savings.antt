@@ -1,4 +1,4 @@
-use Rattle.std.proofs.Common.{◌≡◌, ℕ, ◌+◌, ◌≤◌, Bool, true, false, cond, List, [], ◌∷◌, ◌++◌, sym, ap, subst, ◌∙◌, refl, arith, Option, Some, None}
+use Rattle.std.proofs.Common.{◌≡◌, ℕ, ◌<◌, ◌≤◌, Bool, true, false, cond, List, [], ◌∷◌, ◌++◌, sym, ap, subst, ◌∙◌, refl, arith, Option, Some, None}
 use Rattle.breakpoints.specs.Breakpoints.{Breaks}
 use Rattle.std.specs.Prelude.{Ok}
 use Rattle.std.specs.Option.{is_some, option_map, option_map_or}
@@ -17,13 +17,13 @@ use Rattle.report_text.specs.declared.answer.Answer.{Answer}
 use Rattle.report_text.specs.declared.answer.Code.{Code}
 use Rattle.report_text.specs.declared.answer.Code.TheVariants.{NoCheckpoint, Speculating}
 use Rattle.command_core.specs.declared.checkpoints.Kept.{Kept}
-use Rattle.command_core.specs.State.{Checkpoint, State, process_of, registry_of}
+use Rattle.command_core.specs.State.{Checkpoint, State, number_after, process_of, registry_of}
 use Rattle.command_core.specs.Sessions.{HasNoProcess, IsSession, session_state}
 use Rattle.command_core.specs.Kept.{checkpoint_in, checkpoints_in, kept_named, kept_process, shown_state, spaces_kept}
 use Rattle.command_core.specs.Rows.{Row, accepts, first_refusal}
 use Rattle.command_core.specs.Giving.{GivesChange}
 use Rattle.command_core.specs.Copies.{CopiesProcess, CopyFails, with_process_copy}
-use Rattle.command_core.specs.Checkpoints.{SavesSpace, checkpoint_named, checkpoint_refusals, checkpoint_row, restore_row, restores}
+use Rattle.command_core.specs.Checkpoints.{SavesSpace, checkpoint_named, checkpoint_refusals, checkpoint_row, checkpoint_under, restore_row, restores}
 use Rattle.command_core.specs.Changes.{answer_of, on_process}
 use Rattle.command_core.specs.LikeLaws.{states_itself, states_same}
 use Rattle.command_core.proofs.Copies.{copy_keeps, gives_unmade}
@@ -75,47 +75,51 @@ module _ (old : Machine) (xs : List Kept) (breaks : Breaks) (drawn p : ℕ) (nam
   whole = whole_in (spaces_of old) p process
 
   -- A checkpoint.
-  abbrev saving : Row
-  saving = checkpoint_row p name whole (registry_of before)
-
-  saving_refusals : (mark found : Bool) → mark ≡ mark_in old p → found ≡ is_some (kept_named name xs) → first_refusal saving.refusals ≡ first_refusal (checkpoint_refusals mark found drawn)
-  saving_refusals mark found marked is =
-      ap (λ b. first_refusal (checkpoint_refusals b (is_some (checkpoint_named name kept)) drawn)) (marked_is (spaces_of old) p process (mark_in old p) refl ∙ sym marked)
-      ∙ ap (λ b. first_refusal (checkpoint_refusals mark b drawn)) (found_shown old name xs ∙ sym is)
+  abbrev under : Option ℕ → Row
+  under next = checkpoint_under next p name whole (registry_of before)
 
   module _ (mark found : Bool) (marked : mark ≡ mark_in old p) (is_found : found ≡ is_some (kept_named name xs)) where
-    pub checkpoint_refused : (code : Code) → first_refusal (checkpoint_refusals mark found drawn) ≡ Some code
+    saving_refusals : (next : Option ℕ) → first_refusal (under next).refusals ≡ first_refusal (checkpoint_refusals mark found next)
+    saving_refusals next =
+        ap (λ b. first_refusal (checkpoint_refusals b (is_some (checkpoint_named name kept)) next)) (marked_is (spaces_of old) p process (mark_in old p) refl ∙ sym marked)
+        ∙ ap (λ b. first_refusal (checkpoint_refusals mark b next)) (found_shown old name xs ∙ sym is_found)
+
+    pub checkpoint_refused : (code : Code) → first_refusal (checkpoint_refusals mark found (number_after drawn)) ≡ Some code
         → GivesChange (on_process p (checkpoint_row p name) (registry_of before)) before (Refused code) before
     checkpoint_refused code is =
         gives_found old kept breaks drawn p (checkpoint_row p name) process (Refused code) before there
-        (row_refused saving before before code (saving_refusals mark found marked is_found ∙ is) (states_itself before))
+        (row_refused (under (number_after drawn)) before before code (saving_refusals (number_after drawn) ∙ is) (states_itself before))
 
     -- it isn't refused
-    module _ (new : Machine) (is : IsSession old (spaces_kept xs) drawn) (taken : first_refusal (checkpoint_refusals mark found drawn) ≡ None) where
-      none : first_refusal saving.refusals ≡ None
-      none = saving_refusals mark found marked is_found ∙ taken
+    module _ (new : Machine) (n : ℕ) (is : IsSession old (spaces_kept xs) drawn) (next : number_after drawn ≡ Some n)
+        (taken : first_refusal (checkpoint_refusals mark found (number_after drawn)) ≡ None) where
+      none : first_refusal (under (Some n)).refusals ≡ None
+      none = saving_refusals (Some n) ∙ ap (λ o. first_refusal (checkpoint_refusals mark found o)) (sym next) ∙ taken
 
       abbrev entered : Kept
-      entered = record { name = name; space = drawn + 1; regs = process.regs; state = process.state }
+      entered = record { name = name; space = n; regs = process.regs; state = process.state }
 
-      pub checkpoint_saved : SavesSpace {T = List ℕ} p (drawn + 1) old new (Ok name)
-          → GivesChange (on_process p (checkpoint_row p name) (registry_of before)) before (Saved p name (drawn + 1)) (shown_state new (xs ++ entered ∷ []) breaks (drawn + 1))
-      checkpoint_saved (enough, saved) =
-          let same = all_shown (spaces_of new) (spaces_of old) xs (next_same old new (spaces_kept xs) drawn is saved.others) in
-          let shows : checkpoints_in (spaces_of new) (xs ++ entered ∷ []) ≡ (accepts saving before).after.checkpoints =
+      pub checkpoint_saved : drawn < n → SavesSpace {T = List ℕ} p n old new (Ok name)
+          → GivesChange (on_process p (checkpoint_row p name) (registry_of before)) before (Saved p name n) (shown_state new (xs ++ entered ∷ []) breaks n)
+      checkpoint_saved above (enough, saved) =
+          let same = all_shown (spaces_of new) (spaces_of old) xs (next_same old new (spaces_kept xs) drawn n is above saved.others) in
+          let shows : checkpoints_in (spaces_of new) (xs ++ entered ∷ []) ≡ (accepts (under (Some n)) before).after.checkpoints =
           more_shown (spaces_of new) xs entered ∙ ap (λ (cs : List Checkpoint). cs ++ checkpoint_in (spaces_of new) entered ∷ []) same
-          ∙ ap (λ m. kept ++ record { name = name; space = drawn + 1; whole = record { registers = process.regs; state = process.state; memory = m } } ∷ []) saved.memory in
-          let after = shown_state new (xs ++ entered ∷ []) breaks (drawn + 1) in
-          gives_found old kept breaks drawn p (checkpoint_row p name) process (Saved p name (drawn + 1)) after there
-          (row_accepted saving before after none enough
-          (states_same after (accepts saving before).after (λ i. record { wholes = saved.after i; checkpoints = shows i; breakpoints = breaks; drawn = drawn + 1 })))
+          ∙ ap (λ m. kept ++ record { name = name; space = n; whole = record { registers = process.regs; state = process.state; memory = m } } ∷ []) saved.memory in
+          let after = shown_state new (xs ++ entered ∷ []) breaks n in
+          gives_found old kept breaks drawn p (checkpoint_row p name) process (Saved p name n) after there
+          (subst (λ o. GivesChange (under o) before (Saved p name n) after) (sym next)
+          (row_accepted (under (Some n)) before after none enough
+          (states_same after (accepts (under (Some n)) before).after (λ i. record { wholes = saved.after i; checkpoints = shows i; breakpoints = breaks; drawn = n }))))
 
-      pub checkpoint_unsaved : (e : SpaceError) → CopyFails p (drawn + 1) old new e
+      pub checkpoint_unsaved : (e : SpaceError) → CopyFails p n old new e
           → GivesChange (on_process p (checkpoint_row p name) (registry_of before)) before (answer_of e) (shown_state new xs breaks drawn)
       checkpoint_unsaved e unmade =
-          gives_kept (on_process p (checkpoint_row p name)) old new xs breaks drawn (free_same old new (spaces_kept xs) (copy_keeps p (drawn + 1) old new e unmade).free is.free) (answer_of e) drawn
-          (gives_found old kept breaks drawn p (checkpoint_row p name) process (answer_of e) (session_state new kept breaks drawn) there
-          (gives_unmade saving p (drawn + 1) old new kept breaks drawn none refl refl refl e unmade))
+          let after = session_state new kept breaks drawn in
+          gives_kept (on_process p (checkpoint_row p name)) old new xs breaks drawn (free_same old new (spaces_kept xs) (copy_keeps p n old new e unmade).free is.free) (answer_of e) drawn
+          (gives_found old kept breaks drawn p (checkpoint_row p name) process (answer_of e) after there
+          (subst (λ o. GivesChange (under o) before (answer_of e) after) (sym next)
+          (gives_unmade (under (Some n)) p n old new kept breaks drawn none refl refl refl e unmade)))
 
   -- A restore.
   abbrev restoring : Row
@@ -171,14 +175,13 @@ module _ (old : Machine) (xs : List Kept) (breaks : Breaks) (drawn p : ℕ) (nam
         (gives_unmade (restores_by false (Some x)) x.space p old new kept breaks drawn refl refl refl refl e unmade))
 
 -- what a session keeps
-pub session_of_saved : (old new : Machine) (xs : List Kept) (drawn p : ℕ) (x : Kept) → IsSession old (spaces_kept xs) drawn → drawn + 1 ≤ LAST_SPACE → x.space ≡ drawn + 1
-    → SavesSpace {T = List ℕ} p (drawn + 1) old new (Ok x.name) → IsSession new (spaces_kept (xs ++ x ∷ [])) (drawn + 1)
-session_of_saved old new xs drawn p x is below space (enough, saved) =
-    let q = drawn + 1 in
-    let absent : get new.processes q ≡ None = ap (λ m. get m q) saved.processes ∙ is.no_process q (omega arith) in
+pub session_of_saved : (old new : Machine) (xs : List Kept) (drawn q p : ℕ) (x : Kept) → IsSession old (spaces_kept xs) drawn → (drawn < q) × (q ≤ LAST_SPACE) → x.space ≡ q
+    → SavesSpace {T = List ℕ} p q old new (Ok x.name) → IsSession new (spaces_kept (xs ++ x ∷ [])) q
+session_of_saved old new xs drawn q p x is (above, below) space (enough, saved) =
+    let absent : get new.processes q ≡ None = ap (λ m. get m q) saved.processes ∙ is.no_process q above in
     let lacks : has_saved new q ≡ false = ap (λ (o : Option declared.Process). option_map_or (λ (y : declared.Process). is_some y.saved) o false) absent in
     subst (λ qs. IsSession new qs q) (sym (more_spaces xs x ∙ ap (λ n. spaces_kept xs ++ n ∷ []) space))
-    (session_saved old new (spaces_kept xs) drawn is below saved.there saved.none_awaits (saved.unmarked ∙ sym lacks) saved.others absent)
+    (session_saved old new (spaces_kept xs) drawn q is above below saved.there saved.none_awaits (saved.unmarked ∙ sym lacks) saved.others absent)
 
 -- a process put in its place with a copy of a free space
 pub session_of_restored : (old new : Machine) (spaces : List ℕ) (drawn p : ℕ) (x : Kept) → IsSession old spaces drawn → is_some (get old.processes p) ≡ true → HasNoProcess old x.space

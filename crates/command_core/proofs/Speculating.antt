@@ -30,14 +30,14 @@ use Rattle.machine_core.specs.Laws.{processes_at}
 use Rattle.report_text.specs.declared.answer.Answer.TheVariants.{Done, Refused}
 use Rattle.report_text.specs.declared.answer.Code.{Code}
 use Rattle.report_text.specs.declared.answer.Code.TheVariants.{Ended, Speculating, NotSpeculating, Unmapped}
-use Rattle.command_core.specs.declared.overlays.OverlayChange.{OverlayChange}
-use Rattle.command_core.specs.declared.overlays.OverlayChange.TheVariants.{Speculate, Commit, Discard, Promote, PromoteAll}
+use Rattle.command_core.specs.declared.process_changes.ProcessChange.{ProcessChange}
+use Rattle.command_core.specs.declared.process_changes.ProcessChange.TheVariants.{Speculate, Commit, Discard, Promote, PromoteAll}
 use Rattle.command_core.specs.State.{Registry}
 use Rattle.command_core.specs.Sessions.{HasNoProcess, KeepsSession}
 use Rattle.command_core.specs.Rows.{Row, first_refusal, flushed_by, ledger_by, plain_row, refused_if, refused_row}
 use Rattle.command_core.specs.Giving.{MachineGives}
 use Rattle.command_core.specs.Refusals.{by_not_speculating, by_speculating}
-use Rattle.command_core.specs.Overlays.{ChangesOverlays, after_commit, after_discard, after_speculate, leaves, overlay_row, promotion_answer, speculation_answer}
+use Rattle.command_core.specs.ProcessChanges.{ChangesProcess, after_commit, after_discard, after_speculate, leaves, process_row, promotion_answer, speculation_answer}
 use Rattle.command_core.proofs.Keeping.{each}
 use Rattle.command_core.proofs.Places.{marked_is, none_is, not_free, processes_put}
 use Rattle.command_core.proofs.Rows.{fits, is_short, machine_done, machine_full, machine_refused}
@@ -130,7 +130,7 @@ module _ (p : ℕ) (process : declared.Process) (old : Machine) (memory : Transl
 
   -- A speculation begins.
   abbrev begins : Registry → Row
-  begins = overlay_row p Speculate before
+  begins = process_row p Speculate before
 
   start_refusal : (mark : Bool) → runs process.state ≡ true → is_marked old p ≡ mark → (r : Registry)
       → first_refusal (begins r).refusals ≡ first_refusal (by_speculating mark ∷ [])
@@ -144,7 +144,7 @@ module _ (p : ℕ) (process : declared.Process) (old : Machine) (memory : Transl
   abbrev begun : declared.Process
   begun = record { regs = process.regs; state = process.state; saved = Some saved }
 
-  pub started : Starts old.memory memory p (Ok tt) → translations_of memory ≡ flushed p (lists_of old) → runs process.state ≡ true → ChangesOverlays p Speculate process old Done (with_process_at mid p begun)
+  pub started : Starts old.memory memory p (Ok tt) → translations_of memory ≡ flushed p (lists_of old) → runs process.state ≡ true → ChangesProcess p Speculate process old Done (with_process_at mid p begun)
   started (unmarked, within, has) lists run =
       let s = has.settled in
       let kept = kept_by (Some saved) true (memory_of (spaces_of old) p) s.marked (has.base ∙ s.memory) in
@@ -154,7 +154,7 @@ module _ (p : ℕ) (process : declared.Process) (old : Machine) (memory : Transl
       (λ kept breaks drawn. wholes_are (event.Settle p) begun (after_speculate before) is s.others (Some p) has.ledger s.frames lists) (λ r. refl) (λ r. refl) (λ r. refl)
       (stays (event.Settle p) begun (after_speculate before) is s.others s.spaces s.awaiting (λ h. s.marked))
 
-  pub not_started : (e : SpeculationError) → Starts old.memory memory p (Err e) → runs process.state ≡ true → ChangesOverlays p Speculate process old (speculation_answer e) mid
+  pub not_started : (e : SpeculationError) → Starts old.memory memory p (Err e) → runs process.state ≡ true → ChangesProcess p Speculate process old (speculation_answer e) mid
   not_started speculation.Speculating had run = machine_refused begins old mid Speculating (start_refusal true run had.mark_is) (ap (with_memory old) had.kept)
   not_started speculation.NotSpeculating h run = absurd h
   not_started (speculation.Full needed limit) (unmarked, full) run =
@@ -162,8 +162,8 @@ module _ (p : ℕ) (process : declared.Process) (old : Machine) (memory : Transl
       machine_full begins old mid (event.Settle p) needed limit (start_refusal false run unmarked) (λ r. refl) (λ r. refl) f.needed_is f.limit_is f.full f.same
 
   -- It ends.
-  abbrev ends : OverlayChange → Registry → Row
-  ends change = overlay_row p change before
+  abbrev ends : ProcessChange → Registry → Row
+  ends change = process_row p change before
 
   end_refusal : (mark : Bool) → is_marked old p ≡ mark → first_refusal (by_not_speculating (is_speculating before) ∷ []) ≡ first_refusal (by_not_speculating mark ∷ [])
   end_refusal mark is = ap (λ b. first_refusal (by_not_speculating b ∷ [])) (speculates mark is)
@@ -171,7 +171,7 @@ module _ (p : ℕ) (process : declared.Process) (old : Machine) (memory : Transl
   abbrev forgotten : declared.Process
   forgotten = record { regs = process.regs; state = process.state; saved = None }
 
-  pub has_committed : Commits old.memory memory p (Ok tt) → translations_of memory ≡ flushed p (lists_of old) → ChangesOverlays p Commit process old Done (with_process_at mid p forgotten)
+  pub has_committed : Commits old.memory memory p (Ok tt) → translations_of memory ≡ flushed p (lists_of old) → ChangesProcess p Commit process old Done (with_process_at mid p forgotten)
   has_committed (marked, has) lists =
       let s = has.settled in
       let kept = kept_by None false (base_of (state_of memory) p) s.marked refl in
@@ -182,7 +182,7 @@ module _ (p : ℕ) (process : declared.Process) (old : Machine) (memory : Transl
       (λ kept breaks drawn. wholes_are (event.Commit p) forgotten (after_commit before) is s.others (Some p) ledger s.frames lists) (λ r. refl) (λ r. refl) (λ r. refl)
       (stays (event.Commit p) forgotten (after_commit before) is s.others s.spaces s.awaiting (λ h. s.marked))
 
-  pub not_committed : (e : SpeculationError) → Commits old.memory memory p (Err e) → ChangesOverlays p Commit process old (speculation_answer e) mid
+  pub not_committed : (e : SpeculationError) → Commits old.memory memory p (Err e) → ChangesProcess p Commit process old (speculation_answer e) mid
   not_committed speculation.Speculating h = absurd h
   not_committed speculation.NotSpeculating had = machine_refused (ends Commit) old mid NotSpeculating (λ r. end_refusal false had.mark_is) (ap (with_memory old) had.kept)
   not_committed (speculation.Full needed limit) h = absurd h
@@ -191,7 +191,7 @@ module _ (p : ℕ) (process : declared.Process) (old : Machine) (memory : Transl
   abbrev goes_back : Option Whole → Registry → Row
   goes_back kept r = option_map_or (λ whole. plain_row false (Some p) [] (event.Discard p) (leaves p (after_discard whole) r)) kept (refused_row NotSpeculating r)
 
-  not_kept : is_marked old p ≡ false → (new : Machine) → new ≡ old → ChangesOverlays p Discard process old (Refused NotSpeculating) new
+  not_kept : is_marked old p ≡ false → (new : Machine) → new ≡ old → ChangesProcess p Discard process old (Refused NotSpeculating) new
   not_kept unmarked new same =
       subst (λ (kept : Option Whole). MachineGives (goes_back kept) old (Refused NotSpeculating) new) (sym (kept_before false unmarked))
       (machine_refused (goes_back None) old new NotSpeculating (λ r. refl) same)
@@ -200,7 +200,7 @@ module _ (p : ℕ) (process : declared.Process) (old : Machine) (memory : Transl
   again saved = record { regs = saved.regs; state = saved.state; saved = None }
 
   pub has_discarded : (saved : SavedRegs) → process.saved ≡ Some saved → Discards old.memory memory p (Ok tt)
-      → translations_of memory ≡ flushed p (lists_of old) → ChangesOverlays p Discard process old Done (with_process_at mid p (again saved))
+      → translations_of memory ≡ flushed p (lists_of old) → ChangesProcess p Discard process old Done (with_process_at mid p (again saved))
   has_discarded saved here (marked, has) lists =
       let kept = kept_by None false (base_of (state_of memory) p) has.marked refl in
       let whole = kept_whole (base_of (spaces_of old) p) saved in
@@ -214,12 +214,12 @@ module _ (p : ℕ) (process : declared.Process) (old : Machine) (memory : Transl
       (λ kept breaks drawn. wholes_are (event.Discard p) (again saved) (after_discard whole) is has.others (Some p) ledger has.frames lists) (λ r. refl) (λ r. refl) (λ r. refl)
       (stays (event.Discard p) (again saved) (after_discard whole) is has.others has.spaces has.awaiting (λ h. has.marked)))
 
-  pub not_discarded : (e : SpeculationError) → Discards old.memory memory p (Err e) → ChangesOverlays p Discard process old (speculation_answer e) mid
+  pub not_discarded : (e : SpeculationError) → Discards old.memory memory p (Err e) → ChangesProcess p Discard process old (speculation_answer e) mid
   not_discarded speculation.Speculating h = absurd h
   not_discarded speculation.NotSpeculating had = not_kept had.mark_is mid (ap (with_memory old) had.kept)
   not_discarded (speculation.Full needed limit) h = absurd h
 
-  pub nothing_saved : process.saved ≡ None → is_marked old p ≡ has_saved old p → ChangesOverlays p Discard process old (Refused NotSpeculating) old
+  pub nothing_saved : process.saved ≡ None → is_marked old p ≡ has_saved old p → ChangesProcess p Discard process old (Refused NotSpeculating) old
   nothing_saved none kept = not_kept (kept ∙ saved_here ∙ ap is_some none) old refl
 
   -- Pages are promoted.
@@ -239,24 +239,24 @@ module _ (p : ℕ) (process : declared.Process) (old : Machine) (memory : Transl
     promoted_stays : KeepsSession old mid
     promoted_stays = subst (KeepsSession old) put_again (stays e process before process_is s.others s.spaces s.awaiting (λ h. s.marked ∙ h ∙ saved_here))
 
-  all_refusal : (mark : Bool) → is_marked old p ≡ mark → (r : Registry) → first_refusal (overlay_row p PromoteAll before r).refusals ≡ first_refusal (by_speculating mark ∷ [])
+  all_refusal : (mark : Bool) → is_marked old p ≡ mark → (r : Registry) → first_refusal (process_row p PromoteAll before r).refusals ≡ first_refusal (by_speculating mark ∷ [])
   all_refusal mark is r = ap (λ b. first_refusal (by_speculating b ∷ [])) (speculates mark is)
 
-  pub all_promoted : PromotesAll old.memory memory p (Ok tt) → translations_of memory ≡ flushed p (lists_of old) → ChangesOverlays p PromoteAll process old Done mid
+  pub all_promoted : PromotesAll old.memory memory p (Ok tt) → translations_of memory ≡ flushed p (lists_of old) → ChangesProcess p PromoteAll process old Done mid
   all_promoted (unmarked, within, has) lists =
-      machine_done (overlay_row p PromoteAll before) old mid (all_refusal false unmarked) (λ kept breaks drawn. fits (event.Settle p) old within) (λ r. refl)
+      machine_done (process_row p PromoteAll before) old mid (all_refusal false unmarked) (λ kept breaks drawn. fits (event.Settle p) old within) (λ r. refl)
       (λ kept breaks drawn. promoted _ has.settled unmarked (event.Settle p) lists has.ledger) (λ r. refl) (λ r. refl) (λ r. refl) (promoted_stays _ has.settled unmarked (event.Settle p) lists has.ledger)
 
-  pub none_promoted : (e : PromoteError) (address : ℕ) → PromotesAll old.memory memory p (Err e) → ChangesOverlays p PromoteAll process old (promotion_answer address e) mid
+  pub none_promoted : (e : PromoteError) (address : ℕ) → PromotesAll old.memory memory p (Err e) → ChangesProcess p PromoteAll process old (promotion_answer address e) mid
   none_promoted (promote.Unmapped at) address h = absurd h
-  none_promoted promote.Speculating address had = machine_refused (overlay_row p PromoteAll before) old mid Speculating (all_refusal true had.marked) (ap (with_memory old) had.kept)
+  none_promoted promote.Speculating address had = machine_refused (process_row p PromoteAll before) old mid Speculating (all_refusal true had.marked) (ap (with_memory old) had.kept)
   none_promoted (promote.Full needed limit) address (unmarked, full) =
       let f = is_short (event.Settle p) old memory needed limit full in
-      machine_full (overlay_row p PromoteAll before) old mid (event.Settle p) needed limit (all_refusal false unmarked) (λ r. refl) (λ r. refl) f.needed_is f.limit_is f.full f.same
+      machine_full (process_row p PromoteAll before) old mid (event.Settle p) needed limit (all_refusal false unmarked) (λ r. refl) (λ r. refl) f.needed_is f.limit_is f.full f.same
 
   module _ (address : ℕ) where
     abbrev one : Registry → Row
-    one = overlay_row p (Promote address) before
+    one = process_row p (Promote address) before
 
     abbrev found : Option PageState
     found = page_in (spaces_of old) p (address / PAGE_BYTES)
@@ -277,14 +277,14 @@ module _ (p : ℕ) (process : declared.Process) (old : Machine) (memory : Transl
     here_refusal : is_marked old p ≡ false → is_some found ≡ true → (r : Registry) → first_refusal (one r).refusals ≡ None
     here_refusal unmarked here r = page_refusal false found unmarked refl r ∙ ap (refusal_of false) here
 
-    pub page_promoted : Promotes old.memory memory p (address / PAGE_BYTES) (Ok tt) → translations_of memory ≡ flushed p (lists_of old) → ChangesOverlays p (Promote address) process old Done mid
+    pub page_promoted : Promotes old.memory memory p (address / PAGE_BYTES) (Ok tt) → translations_of memory ≡ flushed p (lists_of old) → ChangesProcess p (Promote address) process old Done mid
     page_promoted (unmarked, has) lists =
         let e = event.SettlePage p (address / PAGE_BYTES) in
         machine_done one old mid (here_refusal unmarked has.there) (λ kept breaks drawn. fits e old has.fits) (λ r. refl)
         (λ kept breaks drawn. promoted _ has.settled unmarked e lists has.ledger) (λ r. refl) (λ r. refl) (λ r. refl) (promoted_stays _ has.settled unmarked e lists has.ledger)
 
     pub not_promoted : (e : PromoteError) → Promotes old.memory memory p (address / PAGE_BYTES) (Err e)
-        → ChangesOverlays p (Promote address) process old (promotion_answer address e) mid
+        → ChangesProcess p (Promote address) process old (promotion_answer address e) mid
     not_promoted (promote.Unmapped at) had = machine_refused one old mid (Unmapped address) (page_refusal false None had.unmarked had.absent) (ap (with_memory old) had.kept)
     not_promoted promote.Speculating had = machine_refused one old mid Speculating (page_refusal true found had.marked refl) (ap (with_memory old) had.kept)
     not_promoted (promote.Full needed limit) (unmarked, here, full) =

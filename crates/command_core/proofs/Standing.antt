@@ -4,13 +4,13 @@ use Rattle.std.specs.Option.{option_or}
 use Rattle.std.specs.FinMap.{get}
 use Rattle.breakpoints.specs.Breakpoints.{Breaks}
 use Rattle.ovl_io.specs.declared.turn.Turn.{Turn}
-use Rattle.ovl_io.specs.declared.turn.Turn.TheVariants as turn
 use Rattle.machine_core.specs.Process.{Process, runs}
 use Rattle.machine_core.specs.Machine.{AreLike, Machine, Processes, Wholes, spaces_of}
 use Rattle.machine_core.specs.Turns.{after_turn}
 use Rattle.machine_core.specs.Laws.{like_after_turn, like_back, like_chain, like_itself, like_turn}
 use Rattle.report_text.specs.declared.answer.Code.{Code}
 use Rattle.report_text.specs.declared.answer.Code.TheVariants.{Ended}
+use Rattle.command_core.specs.declared.modes.Modes.{Modes}
 use Rattle.command_core.specs.State.{State, with_wholes}
 use Rattle.command_core.specs.Sessions.{InSession, IsSession, KeepsFree, KeepsRest}
 use Rattle.command_core.specs.declared.checkpoints.Kept.{Kept}
@@ -20,7 +20,7 @@ use Rattle.command_core.proofs.Places.{free_same}
 use Rattle.command_core.specs.Looks.{BeginsStep, begun}
 use Rattle.command_core.specs.LikeLaws.{like_ending, like_found, like_left, like_next, like_text}
 use Rattle.command_core.specs.Standing.{SessionAnswersAs, SessionStandsFor, TurnsAs, begun_step, ends_run, speaks, takes_turn}
-use Rattle.command_core.specs.Turns.{EndsRun, InRun, Progress, Speaks, begun_alone, TakesTurn, found_before, left_of, ran_text, run_after, run_found, run_altered}
+use Rattle.command_core.specs.Turns.{EndsRun, InRun, Progress, Speaks, begun_alone, TakesTurn, found_before, left_of, ran_text, run_altered, run_counted, run_found}
 
 -- What holds of a session's own processes holds of those of each state that it stands for.
 
@@ -50,41 +50,37 @@ run_begun session run result is state stands =
 -- a turn
 
 module _ (breaks : Breaks) where
-  like_altered : (t : Turn) (p : ℕ) (a b : Wholes) (run : Progress) → AreLike a b → run_altered breaks t p a run ≡ run_altered breaks t p b run
-  like_altered turn.Stepped p a b run like = like_found a b like breaks (run_after p run)
-  like_altered (turn.Wrote written) p a b run like = like_found a b like breaks (run_after p run)
-  like_altered (turn.Exited code) p a b run like = like_found a b like breaks (run_after p run)
-  like_altered (turn.Faulted kind at) p a b run like = like_found a b like breaks (run_after p run)
-  like_altered (turn.Full units limit) p a b run like = refl
-
   found_same : (a b : Wholes) (running : InRun) → AreLike a b → found_before breaks b running ≡ found_before breaks a running
   found_same a b running like = sym (ap (option_or running.stop) (like_ending a b like breaks running.run))
+
+  like_altered : (t : Turn) (p : ℕ) (a b : Wholes) (run : Progress) → AreLike a b → run_altered breaks t p a run ≡ run_altered breaks t p b run
+  like_altered t p a b run like = ap (λ o. record { run = (run_counted t p run).run; stop = o }) (sym (found_same a b (run_counted t p run) like))
 
   takes_like : (a b new : Wholes) (running after : InRun) (r : Option (ℕ × Turn)) → AreLike a b → TakesTurn breaks a running r new after
       → (left : Wholes) × AreLike new left × TakesTurn breaks b running r left after
   takes_like a b new running after None like (same, (stop, found, is)) =
       (b, subst (λ (w : Wholes). AreLike w b) (sym same) like, (refl, (stop, found_same a b running like ∙ found, is)))
   takes_like a b new running after (Some (p, t)) like (none, next, came, altered, is) =
-      let left = subst (λ (w : Wholes). AreLike w (after_turn b p)) (sym altered) (like_after_turn p a b like) in (
+      let left = like_chain new (after_turn a p) (after_turn b p) altered (like_after_turn p a b like) in (
         after_turn b p,
         left,
         (
           found_same a b running like ∙ none,
           sym (like_next a b like running.run.order) ∙ next,
           came ∙ like_turn p a b like,
-          refl,
+          like_itself (after_turn b p),
           is ∙ like_altered t p new (after_turn b p) running.run left,
         ),
       )
 
 -- what is kept of the rest
-pub rest_kept : (old new : Machine) (xs : List Kept) (breaks : Breaks) (drawn quantum : ℕ) → IsSession old (spaces_kept xs) drawn → KeepsFree old new
-    → KeepsRest (shown_session old xs breaks drawn quantum) (shown_session new xs breaks drawn quantum)
-rest_kept old new xs breaks drawn quantum is free = record {
+pub rest_kept : (old new : Machine) (xs : List Kept) (breaks : Breaks) (drawn : ℕ) (modes : Modes) → IsSession old (spaces_kept xs) drawn → KeepsFree old new
+    → KeepsRest (shown_session old xs breaks drawn modes) (shown_session new xs breaks drawn modes)
+rest_kept old new xs breaks drawn modes is free = record {
   checkpoints = all_shown (spaces_of new) (spaces_of old) xs (free_same old new (spaces_kept xs) free is.free);
   breakpoints = refl;
   drawn = refl;
-  quantum = refl;
+  modes = refl;
 }
 
 -- the state after turns that left these processes stands, where all else is as it was
@@ -138,7 +134,7 @@ speaks_as old new running after line (text, left) rest state stands =
 
 pub ends_as : (old new : InSession) (running after : InRun) → ends_run running after old.state new.state → KeepsRest old new
     → TurnsAs (ends_run running after) old new
-ends_as old new running after (stop, found, text, left) rest state stands =
+ends_as old new running after (stop, found, said) rest state stands =
     let a = old.state.wholes in
     let b = state.wholes in
     let breaks = old.state.breakpoints in (
@@ -150,7 +146,9 @@ ends_as old new running after (stop, found, text, left) rest state stands =
       subst (λ (bs : Breaks). EndsRun bs b running new.state.wholes after) stands.breakpoints (
         stop,
         found,
-        same_text breaks a b running stands.wholes ∙ text,
-        like_chain (left_of breaks b running).after (left_of breaks a running).after new.state.wholes (same_after breaks a b running stands.wholes) left,
+        (
+          same_text breaks a b running stands.wholes ∙ said.0,
+          like_chain (left_of breaks b running).after (left_of breaks a running).after new.state.wholes (same_after breaks a b running stands.wholes) said.1,
+        ),
       ),
     )

@@ -29,7 +29,7 @@ use Rattle.command_core.specs.State.{Registry}
 use Rattle.command_core.specs.Sessions.{KeepsSession}
 use Rattle.command_core.specs.Rows.{Row, first_refusal, is_event_full}
 use Rattle.command_core.specs.Giving.{MachineGives}
-use Rattle.command_core.specs.Overlays.{with_pages}
+use Rattle.command_core.specs.ProcessChanges.{with_pages}
 use Rattle.command_core.specs.Debugging.{poke_answer, poke_refused, poke_row}
 use Rattle.command_core.proofs.Rows.{fits, is_short, machine_done, machine_full, machine_refused}
 use Rattle.command_core.proofs.Speculating.{kept_before, kept_by, put_again, saved_here, speculates, stays, wholes_are, wholes_left}

@@ -1,4 +1,4 @@
-use Rattle.std.proofs.Common.{◌≡◌, ℕ, zero, suc, ◌+◌, ◌-◌, ◌<◌, ◌≤◌, Bool, true, false, cond, sym, ap, subst, ◌∙◌, refl, arith, Option, Some, None}
+use Rattle.std.proofs.Common.{◌≡◌, ℕ, zero, suc, ◌+◌, ◌-◌, ◌<◌, ◌≤◌, Bool, true, false, cond, sym, ap, subst, ◌∙◌, refl, arith, Option, Some, None, []}
 use Rattle.std.specs.FinMap.{get}
 use Rattle.std.specs.Option.{option_map, option_map_or}
 use Rattle.number_maps.specs.Keys.{get_same, insert_kept, insert_over}
@@ -6,21 +6,21 @@ use Rattle.rv_execute.specs.declared.outcome.Outcome.{Outcome}
 use Rattle.rv_execute.specs.declared.outcome.Outcome.TheVariants as outcome
 use Rattle.rv_execute.specs.Execution.{Upshot, Steps, Asks, Faults, outcome_by}
 use Rattle.machine_core.specs.Process.{Process, runs}
-use Rattle.machine_core.specs.Machine.{Processes, Wholes, is_running, unit_limit, running_numbers}
+use Rattle.machine_core.specs.Machine.{AreLike, Processes, Wholes, is_running, unit_limit, running_numbers}
 use Rattle.machine_core.specs.Turns.{Guest, after_execution, after_turn, came_to, executed, execution_of, guest_at, guest_executed, guest_of, guest_refused, is_full, outcome_found, outcome_of, state_executed, units_needed, with_guest}
 use Rattle.breakpoints.specs.Breakpoints.{Breaks, addresses_of}
 use Rattle.machine_core.specs.Executions.{Executions, executions, first_execution, is_at_stop, last_execution, more_executions, no_execution, stopped_execution}
 use Rattle.machine_core.specs.Laws.{turn_law}
 use Rattle.machine_core.specs.NumberLaws.{numbers_are}
 use Rattle.round_robin.specs.Turns.{after_turns_of}
-use Rattle.round_robin.specs.Laws.{goes_on_next, left_after, one_turn_more}
-use Rattle.report_text.specs.Answers.{turn_text}
-use Rattle.machine_core.specs.Ample.{is_full_turn}
+use Rattle.round_robin.specs.Laws.{goes_on_next, left_after}
+use Rattle.ovl_io.specs.declared.turn.Turn.TheVariants as turn
 use Rattle.command_core.specs.declared.turns.Order.{Order}
 use Rattle.command_core.specs.declared.turns.Order.TheVariants.{ByTurns, Alone}
-use Rattle.command_core.specs.Turns.{GoesOn, Progress, last_break, last_took, next_of, order_after, order_left, order_took, ran_from, ran_text, run_after, run_took, stretch}
+use Rattle.command_core.specs.Turns.{Progress, SaysThen, last_break, last_took, next_of, order_after, order_left, order_took, ran_from, run_after, run_took, stretch}
+use Rattle.command_core.specs.LikeLaws.{like_left}
 use Rattle.command_core.proofs.Breaks.{unbroken_after}
-use Rattle.command_core.proofs.Rans.{ran_after, ran_quiet}
+use Rattle.command_core.proofs.Rans.{said_like, said_then, same_like, turn_said}
 
 -- Turns of one process, one after the other.
 
@@ -50,22 +50,10 @@ last_over (suc n) p = refl
 last_first : (n p : ℕ) (last : Option ℕ) → last_took (n + 1) p last ≡ last_took n p (Some p)
 last_first n p last = last_more n p last ∙ sym (last_over n p)
 
-last_last : (n p : ℕ) (last : Option ℕ) → last_took (n + 1) p last ≡ Some p
-last_last n p last = last_more n p last
-
 pub took_first : (n p : ℕ) (run : Progress) → run_took (n + 1) p run ≡ run_took n p (run_after p run)
 took_first n p run =
     let same : run.taken + (n + 1) ≡ run.taken + 1 + n = omega arith in
     λ i. record { order = order_first n p run.order i; turns = run.turns; taken = same i; last = last_first n p run.last i }
-
-order_last : (n p : ℕ) (order : Order) → order_took (n + 1) p order ≡ order_after p (order_took n p order)
-order_last n p (ByTurns turns) = ap ByTurns (one_turn_more n p turns)
-order_last n p (Alone q) = refl
-
-pub took_last : (n p : ℕ) (run : Progress) → run_took (n + 1) p run ≡ run_after p (run_took n p run)
-took_last n p run =
-    let same : run.taken + (n + 1) ≡ run.taken + n + 1 = omega arith in
-    λ i. record { order = order_last n p run.order i; turns = run.turns; taken = same i; last = last_last n p run.last i }
 
 -- what is left after one of them
 left_by : (n p : ℕ) (order : Order) (turns taken : ℕ) → n + 1 ≤ order_left p order (turns - taken) → n ≤ order_left p (order_after p order) (turns - (taken + 1))
@@ -137,6 +125,18 @@ still_runs p guest is =
     let parts = steps_by (is_full p guest) (execution_of guest.process).upshot (units_needed p guest) (unit_limit guest.frames) is in
     ap (λ b. runs (cond b (guest_refused p guest) (guest_executed p guest)).process.state) parts.0 ∙ ap (λ u. runs (state_executed u)) parts.1
 
+-- turns without a line: what is left comes to what all came to
+abbrev pub GoesOn : Breaks → Wholes → Progress → Wholes → Progress → Type 0
+GoesOn breaks old run new after = SaysThen [] (ran_from breaks old run) (ran_from breaks new after)
+
+pub goes_then : (breaks : Breaks) (a b c : Wholes) (r s t : Progress) → GoesOn breaks a r b s → GoesOn breaks b s c t → GoesOn breaks a r c t
+goes_then breaks a b c r s t h k = said_then [] (ran_from breaks a r) (ran_from breaks b s) (ran_from breaks c t) h k
+
+pub goes_like : (breaks : Breaks) (a b : Wholes) (r s : Progress) → AreLike a b → r ≡ s → GoesOn breaks a r b s
+goes_like breaks a b r s like same =
+    subst (λ (t : Progress). GoesOn breaks a r b t) same
+    (said_like (ran_from breaks a r) (ran_from breaks b r) (like_left breaks a b (record { run = r; stop = None }) like))
+
 -- The steps of some executions are turns without a line; the last one, where it is no step, is the next turn's.
 pub record IsStretch (breaks : Breaks) (ps : Wholes) (p most : ℕ) (run : Progress) (e : Executions) : Type 0 where
   pub quiet : GoesOn breaks ps run (with_guest ps p e.before) (run_took e.steps p run)
@@ -151,11 +151,7 @@ pub record IsStretch (breaks : Breaks) (ps : Wholes) (p most : ℕ) (run : Progr
   pub after : (e.outcome ≡ outcome.Stepped → ⊥) → after_execution (with_guest ps p e.before) p ≡ with_guest ps p e.after
 
 none_quiet : (breaks : Breaks) (ps : Wholes) (p : ℕ) (guest : Guest) (run : Progress) → IsAt ps p guest → GoesOn breaks ps run (with_guest ps p guest) (run_took 0 p run)
-none_quiet breaks ps p guest run at =
-    let none = took_none p run in (
-      sym (ap (λ (q : Wholes). ran_text (ran_from breaks q (run_took 0 p run))) at.same ∙ ap (λ r. ran_text (ran_from breaks ps r)) none),
-      sym (ap (λ (q : Wholes). (ran_from breaks q (run_took 0 p run)).after) at.same ∙ ap (λ r. (ran_from breaks ps r).after) none),
-    )
+none_quiet breaks ps p guest run at = goes_like breaks ps (with_guest ps p guest) run (run_took 0 p run) (same_like _ _ (sym at.same)) (sym (took_none p run))
 
 -- no execution
 none_done : (breaks : Breaks) (ps : Wholes) (p : ℕ) (guest : Guest) (run : Progress) → IsAt ps p guest → IsStretch breaks ps p 0 run (no_execution guest)
@@ -197,19 +193,14 @@ first_done : (breaks : Breaks) (ps : Wholes) (p most : ℕ) (guest : Guest) (run
 first_done breaks ps p most guest run e at running next unbroken below is rest =
     let law = turn_law outcome.Stepped ps p (is_there ps p guest at running) (came_there ps p guest at ∙ is) in
     let altered : with_guest ps p (executed p guest) ≡ after_turn ps p = sym (executed_there ps p guest at) ∙ sym law.after_is in
-    let silent = ap (turn_text p) law.turn_is in
-    let counted = ap is_full_turn law.turn_is in
     let over = put_over ps p (executed p guest) e.before in
     let took = sym (took_first e.steps p run) in
     record {
-      quiet = (
-        ran_quiet breaks ps (with_guest ps p (executed p guest)) run p unbroken below next counted silent altered ∙ rest.quiet.0
-            ∙ ap (λ (q : Wholes). ran_text (ran_from breaks q (run_took e.steps p (run_after p run)))) over
-            ∙ ap (λ r. ran_text (ran_from breaks (with_guest ps p e.before) r)) took,
-        ran_after breaks ps (with_guest ps p (executed p guest)) run p unbroken below next counted altered ∙ rest.quiet.1
-            ∙ ap (λ (q : Wholes). (ran_from breaks q (run_took e.steps p (run_after p run))).after) over
-            ∙ ap (λ r. (ran_from breaks (with_guest ps p e.before) r).after) took,
-      );
+      quiet = goes_then breaks ps (with_guest ps p (executed p guest)) (with_guest ps p e.before) run (run_after p run) (run_took (e.steps + 1) p run)
+          (turn_said breaks ps (with_guest ps p (executed p guest)) run p turn.Stepped unbroken below next (sym law.turn_is) (same_like _ _ altered))
+          (goes_then breaks (with_guest ps p (executed p guest)) (with_guest (with_guest ps p (executed p guest)) p e.before) (with_guest ps p e.before) (run_after p run)
+          (run_took e.steps p (run_after p run)) (run_took (e.steps + 1) p run) rest.quiet
+          (goes_like breaks _ _ (run_took e.steps p (run_after p run)) (run_took (e.steps + 1) p run) (same_like _ _ over) took));
       fits = omega (arith, rest.fits);
       all = rest.all;
       some = λ steps more. omega arith;

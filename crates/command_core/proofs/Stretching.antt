@@ -1,23 +1,22 @@
-use Rattle.std.proofs.Common.{◌≡◌, ℕ, ◌+◌, ◌-◌, ◌<◌, ◌≤◌, true, false, List, ◌++◌, sym, ap, ◌∙◌, refl, arith, Option, Some, None}
+use Rattle.std.proofs.Common.{◌≡◌, ℕ, ◌+◌, ◌-◌, ◌<◌, ◌≤◌, true, false, [], sym, ap, subst, ◌∙◌, refl, arith, Option, Some, None}
 use Rattle.std.specs.FinMap.{get}
 use Rattle.breakpoints.specs.Breakpoints.{Addresses, Breaks, addresses_of}
 use Rattle.std.specs.Option.{option_map_or}
+use Rattle.ovl_io.specs.declared.turn.Turn.{Turn}
 use Rattle.ovl_io.specs.declared.turn.Turn.TheVariants as turn
 use Rattle.rv_execute.specs.declared.outcome.Outcome.{Outcome}
 use Rattle.rv_execute.specs.declared.outcome.Outcome.TheVariants as outcome
 use Rattle.machine_core.specs.Process.{Process, runs}
-use Rattle.machine_core.specs.Machine.{Wholes, is_running}
-use Rattle.machine_core.specs.Turns.{Guest, after_execution, after_turn, guest_of, turn_of, with_guest}
+use Rattle.machine_core.specs.Machine.{AreLike, Wholes, is_running}
+use Rattle.machine_core.specs.Turns.{Guest, after_asked, after_execution, came_to, guest_of, turn_asked, with_guest}
 use Rattle.machine_core.specs.Executions.{after_executions, all_executed, came_to_last, executions, last_outcome, steps_of, steps_to}
-use Rattle.machine_core.specs.Laws.{IsTurnOf, turn_law}
-use Rattle.report_text.specs.declared.answer.Stop.TheVariants.{Full}
-use Rattle.report_text.specs.Answers.{turn_text}
-use Rattle.machine_core.specs.Ample.{is_full_turn}
+use Rattle.machine_core.specs.Laws.{IsTurn, IsTurnOf, like_after_asked, like_asked, like_back, like_chain, like_running, turn_law}
+use Rattle.report_text.specs.Answers.{has_turn_line, turn_text}
 use Rattle.command_core.specs.declared.turns.Order.{Order}
 use Rattle.command_core.specs.declared.turns.Order.TheVariants.{ByTurns, Alone}
-use Rattle.command_core.specs.Turns.{GoesOn, Progress, Ran, last_break, next_of, order_left, ran_from, ran_text, run_took, stopped, stretch}
-use Rattle.command_core.proofs.Rans.{ran_after, ran_full, ran_says, text_first}
-use Rattle.command_core.proofs.Stretches.{IsAt, IsStretch, is_at, is_stretch, took_last}
+use Rattle.command_core.specs.Turns.{FinishesTurn, Progress, SaysThen, last_break, left_of, next_of, order_left, ran_from, run_counted, run_took, stretch}
+use Rattle.command_core.proofs.Rans.{said_then, turn_said}
+use Rattle.command_core.proofs.Stretches.{GoesOn, IsAt, IsStretch, goes_like, goes_then, is_at, is_stretch}
 
 -- What a stretch of turns came to.
 
@@ -40,8 +39,9 @@ pub record IsLastTurn (breaks : Breaks) (ps : Wholes) (p steps : ℕ) (run : Pro
   pub unbroken : last_break breaks before (run_took steps p run) ≡ None
   pub below : run.taken + steps < run.turns
   pub next : next_of before (run_took steps p run).order ≡ Some p
-  pub law : IsTurnOf before p o
-  pub executed : now ≡ after_execution before p
+  pub runs : is_running before p ≡ true
+  pub came : came_to before p ≡ o
+  pub executed : AreLike now (after_execution before p)
 
 module _ (breaks : Breaks) (ps : Wholes) (p most steps : ℕ) (run : Progress) (running : is_running ps p ≡ true) (next : next_of ps run.order ≡ Some p)
     (unbroken : last_break breaks ps run ≡ None) (is : most ≡ stretch p run) (counted : steps ≡ steps_to (addresses_of breaks p) most ps p) where
@@ -75,17 +75,19 @@ module _ (breaks : Breaks) (ps : Wholes) (p most steps : ℕ) (run : Progress) (
   all_steps : outcome.Stepped ≡ came_to_last stops most ps p → (executions stops p most guest).outcome ≡ outcome.Stepped
   all_steps came = sym (came ∙ outcome_is)
 
-  pub all_taken : outcome.Stepped ≡ came_to_last stops most ps p → (steps ≤ most) × (0 < most → 0 < steps)
-  all_taken came = (omega (arith, steps_are, whole.fits), λ more. omega (arith, steps_are, whole.some (all_steps came) more))
+  pub fits_left : steps ≤ most
+  fits_left = omega (arith, steps_are, whole.fits)
 
-  pub goes_on : (now : Wholes) (after : Progress) → outcome.Stepped ≡ came_to_last stops most ps p → now ≡ after_executions stops most ps p
-      → after ≡ run_took steps p run → GoesOn breaks ps run now after
-  goes_on now after came moved took =
-      let here = sym (moved ∙ after_is ∙ ap (with_guest ps p) (sym (whole.all (all_steps came)))) in
-      let run_is = sym (took ∙ ap (λ n. run_took n p run) steps_are) in (
-        whole.quiet.0 ∙ ap (λ (q : Wholes). ran_text (ran_from breaks q (run_took (executions stops p most guest).steps p run))) here ∙ ap (λ r. ran_text (ran_from breaks now r)) run_is,
-        whole.quiet.1 ∙ ap (λ (q : Wholes). (ran_from breaks q (run_took (executions stops p most guest).steps p run)).after) here ∙ ap (λ r. (ran_from breaks now r).after) run_is,
-      )
+  pub all_taken : outcome.Stepped ≡ came_to_last stops most ps p → 0 < most → 0 < steps
+  all_taken came more = omega (arith, steps_are, whole.some (all_steps came) more)
+
+  pub goes_on : (now : Wholes) → outcome.Stepped ≡ came_to_last stops most ps p → AreLike now (after_executions stops most ps p) → GoesOn breaks ps run now (run_took steps p run)
+  goes_on now came moved =
+      let e = executions stops p most guest in
+      goes_then breaks ps (with_guest ps p e.before) now run (run_took e.steps p run) (run_took steps p run) whole.quiet
+      (goes_like breaks (with_guest ps p e.before) now (run_took e.steps p run) (run_took steps p run)
+      (like_back now (with_guest ps p e.before) (subst (AreLike now) (after_is ∙ ap (with_guest ps p) (sym (whole.all (all_steps came)))) moved))
+      (ap (λ n. run_took n p run) (sym steps_are)))
 
   not_steps : (o : Outcome) → o ≡ came_to_last stops most ps p → (o ≡ outcome.Stepped → ⊥) → (executions stops p most guest).outcome ≡ outcome.Stepped → ⊥
   not_steps o came other steps = other (came ∙ outcome_is ∙ steps)
@@ -93,7 +95,7 @@ module _ (breaks : Breaks) (ps : Wholes) (p most steps : ℕ) (run : Progress) (
   pub one_more : (o : Outcome) → o ≡ came_to_last stops most ps p → (o ≡ outcome.Stepped → ⊥) → steps + 1 ≤ most
   one_more o came other = omega (arith, steps_are, whole.fewer (not_steps o came other))
 
-  pub last_turn : (o : Outcome) (now : Wholes) → o ≡ came_to_last stops most ps p → (o ≡ outcome.Stepped → ⊥) → now ≡ after_executions stops most ps p
+  pub last_turn : (o : Outcome) (now : Wholes) → o ≡ came_to_last stops most ps p → (o ≡ outcome.Stepped → ⊥) → AreLike now (after_executions stops most ps p)
       → IsLastTurn breaks ps p steps run o now
   last_turn o now came other moved =
       let no = not_steps o came other in
@@ -101,40 +103,50 @@ module _ (breaks : Breaks) (ps : Wholes) (p most steps : ℕ) (run : Progress) (
       let same = ap (λ n. run_took n p run) (sym steps_are) in
       record {
         before = before;
-        quiet = (
-          whole.quiet.0 ∙ ap (λ r. ran_text (ran_from breaks before r)) same,
-          whole.quiet.1 ∙ ap (λ r. (ran_from breaks before r).after) same,
-        );
+        quiet = subst (λ r. GoesOn breaks ps run before r) same whole.quiet;
         below = omega (arith, one_more o came other, is, within_by p run.order run.turns run.taken);
         next = ap (λ (r : Progress). next_of before r.order) (sym same) ∙ whole.next no;
         unbroken = ap (last_break breaks before) (sym same) ∙ whole.unbroken no;
-        law = turn_law o before p (whole.runs no) (whole.came no ∙ sym outcome_is ∙ sym came);
-        executed = moved ∙ after_is ∙ sym (whole.after no);
+        runs = whole.runs no;
+        came = whole.came no ∙ sym outcome_is ∙ sym came;
+        executed = subst (AreLike now) (after_is ∙ sym (whole.after no)) moved;
       }
 
--- its line, and what follows it
-pub says_last : (breaks : Breaks) (ps : Wholes) (p steps : ℕ) (run : Progress) (o : Outcome) (now new : Wholes) (line : List ℕ) (after : Progress)
-    → (t : IsLastTurn breaks ps p steps run o now) → is_full_turn (turn_of t.before p) ≡ false → line ≡ turn_text p (turn_of t.before p) → new ≡ after_turn t.before p
-    → after ≡ run_took (steps + 1) p run
-    → (ran_text (ran_from breaks ps run) ≡ line ++ ran_text (ran_from breaks new after)) × ((ran_from breaks ps run).after ≡ (ran_from breaks new after).after)
-says_last breaks ps p steps run o now new line after t counted says altered took =
+-- where it asked for something, the process runs
+pub asked_runs : (breaks : Breaks) (ps : Wholes) (p steps : ℕ) (run : Progress) (o : Outcome) (now : Wholes) → IsLastTurn breaks ps p steps run o now
+    → o ≡ outcome.Asked → is_running now p ≡ true
+asked_runs breaks ps p steps run o now t asks =
+    like_running p now (after_execution t.before p) t.executed ∙ (turn_law outcome.Asked t.before p t.runs (t.came ∙ asks)).running
+
+-- what it says, and what follows it
+pub says_last : (breaks : Breaks) (ps : Wholes) (p steps : ℕ) (run : Progress) (o : Outcome) (now new : Wholes) (came : Turn)
+    → IsLastTurn breaks ps p steps run o now → FinishesTurn p o now came new
+    → SaysThen (turn_text p came) (ran_from breaks ps run) (left_of breaks new (run_counted came p (run_took steps p run)))
+says_last breaks ps p steps run o now new came t finishes =
     let r = run_took steps p run in
-    let same = sym (took ∙ took_last steps p run) in (
-      t.quiet.0 ∙ ran_says breaks t.before new r p line t.unbroken t.below t.next counted says altered ∙ ap (λ q. line ++ ran_text (ran_from breaks new q)) same,
-      t.quiet.1 ∙ ran_after breaks t.before new r p t.unbroken t.below t.next counted altered ∙ ap (λ q. (ran_from breaks new q).after) same,
+    let is = finishes t.before t.runs t.came t.executed in
+    said_then (turn_text p came) (ran_from breaks ps run) (ran_from breaks t.before r) (left_of breaks new (run_counted came p r)) t.quiet
+    (turn_said breaks t.before new r p came t.unbroken t.below t.next is.0 is.1)
+
+-- The rest of a turn, by what came of its execution: nothing, or what was asked for.
+
+pub rest_none : (o came : Outcome) (t : Turn) (p : ℕ) (now : Wholes) → came ≡ o → ((old : Wholes) → IsTurnOf old p o → IsTurn old p t) → FinishesTurn p came now t now
+rest_none o came t p now is whole old runs executed like =
+    let law = whole old (turn_law o old p runs (executed ∙ is)) in
+    (sym law.turn_is, subst (AreLike now) (sym law.after_is) like)
+
+pub rest_asked : (came : Outcome) (t : Turn) (p : ℕ) (now new : Wholes) → came ≡ outcome.Asked → t ≡ turn_asked now p → AreLike new (after_asked now p) → FinishesTurn p came now t new
+rest_asked came t p now new is asked answered old runs executed like =
+    let law = turn_law outcome.Asked old p runs (executed ∙ is) in
+    let left = after_execution old p in (
+      asked ∙ like_asked p now left like ∙ sym law.turn_is,
+      subst (AreLike new) (sym law.after_is) (like_chain new (after_asked now p) (after_asked left p) answered (like_after_asked p now left like)),
     )
 
--- a last turn for which there weren't units enough: its line, and then the run has ended
-pub says_full : (breaks : Breaks) (ps : Wholes) (p steps : ℕ) (run : Progress) (units limit : ℕ) (now : Wholes) (line : List ℕ) (after : Progress)
-    → (t : IsLastTurn breaks ps p steps run (outcome.Full units limit) now) → line ≡ turn_text p (turn.Full units limit) → after ≡ run_took steps p run
-    → (ran_text (ran_from breaks ps run) ≡ line ++ ran_text (stopped Full now after)) × ((ran_from breaks ps run).after ≡ now)
-says_full breaks ps p steps run units limit now line after t says took =
-    let r = run_took steps p run in
-    let left = after_turn t.before p in
-    let same : left ≡ now = t.law.after_is ∙ sym t.executed in
-    let all = ran_full breaks t.before r p units limit t.unbroken t.below t.next t.law.turn_is in (
-      t.quiet.0 ∙ ap ran_text all ∙ text_first p (turn.Full units limit) (stopped Full left r)
-          ∙ ap (λ bs. bs ++ ran_text (stopped Full left r)) (sym says)
-          ∙ ap (λ (x : Progress). line ++ ran_text (stopped Full left x)) (sym took) ∙ ap (λ (w : Wholes). line ++ ran_text (stopped Full w after)) same,
-      t.quiet.1 ∙ ap (λ (x : Ran Wholes). x.after) all ∙ same,
-    )
+-- one without a line says nothing
+pub no_line : (p : ℕ) (t : Turn) → has_turn_line t ≡ false → [] ≡ turn_text p t
+no_line p turn.Stepped none = refl
+no_line p (turn.Wrote written) none = cc
+no_line p (turn.Exited code) none = cc
+no_line p (turn.Faulted kind at) none = cc
+no_line p (turn.Full units limit) none = cc

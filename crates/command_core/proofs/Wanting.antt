@@ -7,6 +7,7 @@ use Rattle.machine_core.specs.Load.{IsAsBefore, Loads}
 use Rattle.machine_core.specs.LoadLaws.{same_wholes}
 use Rattle.report_text.specs.declared.answer.Answer.{Answer}
 use Rattle.report_text.specs.declared.answer.Answer.TheVariants.{Done, Loaded, Forked, Saved, Refused, Full, Memory}
+use Rattle.command_core.specs.declared.modes.Modes.{Modes}
 use Rattle.command_core.specs.declared.checkpoints.Kept.{Kept}
 use Rattle.command_core.specs.Sessions.{InSession, bases_of}
 use Rattle.command_core.specs.Kept.{checkpoints_in, shown_session}
@@ -20,19 +21,19 @@ use Rattle.command_core.specs.Copies.{CopyFails}
 pub told_keeps : (session old new : InSession) (told answer : Answer) → old ≡ session → told ≡ answer → WantKeeps old answer new → WantKeeps session told new
 told_keeps session old new told answer is same kept = subst (λ (s : InSession). WantKeeps s told new) is (subst (λ a. WantKeeps old a new) (sym same) kept)
 
-module _ (old new : Machine) (xs : List Kept) (breaks : Breaks) (drawn quantum : ℕ) where
+module _ (old new : Machine) (xs : List Kept) (breaks : Breaks) (drawn : ℕ) (modes : Modes) where
   abbrev before : InSession
-  before = shown_session old xs breaks drawn quantum
+  before = shown_session old xs breaks drawn modes
 
   abbrev after : InSession
-  after = shown_session new xs breaks drawn quantum
+  after = shown_session new xs breaks drawn modes
 
   same_session : IsAsBefore old new → after ≡ before
   same_session same =
       let all = same_wholes old new same in
       λ i. record {
         state = record { wholes = all i; checkpoints = checkpoints_in (same.0 i) xs; breakpoints = breaks; drawn = drawn };
-        quantum = quantum;
+        modes = modes;
         bases = bases_of (same.0 i);
       }
 

@@ -12,8 +12,8 @@ use Rattle.report_text.specs.declared.answer.Code.{Code}
 use Rattle.report_text.specs.declared.answer.Code.TheVariants.{NoCheckpoint, NoProcess, NotSpeculating}
 use Rattle.script_text.specs.declared.command.Command.{Command}
 use Rattle.script_text.specs.declared.command.Command.TheVariants as command
-use Rattle.command_core.specs.declared.overlays.OverlayChange.{OverlayChange}
-use Rattle.command_core.specs.declared.overlays.OverlayChange.TheVariants.{Speculate, Commit, Discard, Promote, PromoteAll, Map, Unmap, Set}
+use Rattle.command_core.specs.declared.process_changes.ProcessChange.{ProcessChange}
+use Rattle.command_core.specs.declared.process_changes.ProcessChange.TheVariants.{Speculate, Commit, Discard, Promote, PromoteAll, Map, Unmap, Set}
 use Rattle.command_core.specs.State.{Checkpoint, Registry, State, registry_of}
 use Rattle.command_core.specs.Sessions.{InSession}
 use Rattle.command_core.specs.Rows.{Row, accepts, change_by, falls_short, first_refusal, row_is_full, ledger_by, plain_row, refused_row, refuses}
@@ -22,7 +22,7 @@ use Rattle.command_core.specs.Changes.{change_row, drop_row, load_row, on_proces
 use Rattle.command_core.specs.Copies.{fork_row}
 use Rattle.command_core.specs.Debugging.{break_row, poke_row, unbreak_row}
 use Rattle.command_core.specs.Checkpoints.{checkpoint_named, checkpoint_row, forget_row, on_checkpoint, restore_row}
-use Rattle.command_core.specs.Overlays.{after_discard, leaves, overlay_row}
+use Rattle.command_core.specs.ProcessChanges.{after_discard, leaves, process_row}
 use Rattle.command_core.specs.Standing.{GivesAs, SessionStandsFor}
 
 -- Where the frames are ample for the ledger that a change leads to, the change isn't full.
@@ -61,7 +61,7 @@ on_checkpoint_itself name registry = by_found (checkpoint_named name registry.ch
     by_found None = refl
     by_found (Some x) = refl
 
-overlay_itself : (p : ℕ) (change : OverlayChange) (process : Process) (registry : Registry) → is_full_answer (overlay_row p change process registry).answer ≡ false
+overlay_itself : (p : ℕ) (change : ProcessChange) (process : Process) (registry : Registry) → is_full_answer (process_row p change process registry).answer ≡ false
 overlay_itself p Speculate process registry = refl
 overlay_itself p Commit process registry = refl
 overlay_itself p Discard process registry = by_kept process.kept
@@ -83,14 +83,14 @@ change_itself file (command.Drop p) registry = on_process_itself p (drop_row p) 
 change_itself file (command.Poke p address bytes) registry = on_process_itself p (poke_row p address bytes) (λ process registry. refl) registry
 change_itself file (command.Break p address) registry = on_process_itself p (break_row p address) (λ process registry. refl) registry
 change_itself file (command.Unbreak p address) registry = on_process_itself p (unbreak_row p address) (λ process registry. refl) registry
-change_itself file (command.Speculate p) registry = on_process_itself p (overlay_row p Speculate) (overlay_itself p Speculate) registry
-change_itself file (command.Commit p) registry = on_process_itself p (overlay_row p Commit) (overlay_itself p Commit) registry
-change_itself file (command.Discard p) registry = on_process_itself p (overlay_row p Discard) (overlay_itself p Discard) registry
-change_itself file (command.Promote p address) registry = on_process_itself p (overlay_row p (Promote address)) (overlay_itself p (Promote address)) registry
-change_itself file (command.PromoteAll p) registry = on_process_itself p (overlay_row p PromoteAll) (overlay_itself p PromoteAll) registry
-change_itself file (command.Map p address n perms) registry = on_process_itself p (overlay_row p (Map address n perms)) (overlay_itself p (Map address n perms)) registry
-change_itself file (command.Unmap p address n) registry = on_process_itself p (overlay_row p (Unmap address n)) (overlay_itself p (Unmap address n)) registry
-change_itself file (command.Set p register value) registry = on_process_itself p (overlay_row p (Set register value)) (overlay_itself p (Set register value)) registry
+change_itself file (command.Speculate p) registry = on_process_itself p (process_row p Speculate) (overlay_itself p Speculate) registry
+change_itself file (command.Commit p) registry = on_process_itself p (process_row p Commit) (overlay_itself p Commit) registry
+change_itself file (command.Discard p) registry = on_process_itself p (process_row p Discard) (overlay_itself p Discard) registry
+change_itself file (command.Promote p address) registry = on_process_itself p (process_row p (Promote address)) (overlay_itself p (Promote address)) registry
+change_itself file (command.PromoteAll p) registry = on_process_itself p (process_row p PromoteAll) (overlay_itself p PromoteAll) registry
+change_itself file (command.Map p address n perms) registry = on_process_itself p (process_row p (Map address n perms)) (overlay_itself p (Map address n perms)) registry
+change_itself file (command.Unmap p address n) registry = on_process_itself p (process_row p (Unmap address n)) (overlay_itself p (Unmap address n)) registry
+change_itself file (command.Set p register value) registry = on_process_itself p (process_row p (Set register value)) (overlay_itself p (Set register value)) registry
 change_itself file (command.Load name) registry = refl
 change_itself file (command.Forget name) registry = on_checkpoint_itself name registry
 change_itself file command.Compact registry = refl

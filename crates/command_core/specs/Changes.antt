@@ -1,4 +1,4 @@
-use Rattle.std.specs.Prelude.{ℕ, ◌+◌, true, false, List, [], ◌∷◌, Some, None}
+use Rattle.std.specs.Prelude.{ℕ, Option, true, false, List, [], ◌∷◌, Some, None}
 use Rattle.std.specs.Option.{option_map, option_map_or}
 use Rattle.std.specs.FinMap.{get, remove}
 use Rattle.elf_loader.specs.Accepted.{file_refusal}
@@ -14,12 +14,12 @@ use Rattle.report_text.specs.declared.answer.Code.TheVariants.{NoProcess, Elf}
 use Rattle.report_text.specs.Answers.{HasAnswerLine}
 use Rattle.script_text.specs.declared.command.Command.{Command}
 use Rattle.script_text.specs.declared.command.Command.TheVariants as command
-use Rattle.command_core.specs.declared.overlays.OverlayChange.TheVariants.{Speculate, Commit, Discard, Promote, PromoteAll, Map, Unmap, Set}
-use Rattle.command_core.specs.State.{Registry}
+use Rattle.command_core.specs.declared.process_changes.ProcessChange.TheVariants.{Speculate, Commit, Discard, Promote, PromoteAll, Map, Unmap, Set}
+use Rattle.command_core.specs.State.{Registry, next_number}
 use Rattle.command_core.specs.Rows.{Row, TakesFirst, plain_row, refused_row, still_row}
-use Rattle.command_core.specs.Refusals.{by_numbers_used}
+use Rattle.command_core.specs.Refusals.{by_numbers_used, number_in}
 use Rattle.command_core.specs.Copies.{draws, fork_row}
-use Rattle.command_core.specs.Overlays.{overlay_row}
+use Rattle.command_core.specs.ProcessChanges.{process_row}
 use Rattle.command_core.specs.Debugging.{break_row, poke_row, unbreak_row}
 use Rattle.command_core.specs.Checkpoints.{checkpoint_row, forget_row, on_checkpoint, restore_row}
 
@@ -30,49 +30,49 @@ abbrev pub on_process : ℕ → (Process → Registry → Row) → Registry → 
 on_process p row registry = option_map_or (λ process. row process registry) (get registry.processes p) (refused_row NoProcess registry)
 
 -- `load`: a process of a file, under the next number
+abbrev pub load_under : Option ℕ → List ℕ → Registry → Row
+load_under next file registry =
+    record (plain_row true None (option_map Elf (file_refusal file) ∷ by_numbers_used next ∷ []) (event.Load (number_in next) (load_pages file))
+    (draws (number_in next) (loaded_process file) registry)) { memory = TakesFirst; answer = Loaded (number_in next) (page_count file) (entry_address file) }
+
 abbrev pub load_row : List ℕ → Registry → Row
-load_row file registry = record {
-  refusals = option_map Elf (file_refusal file) ∷ by_numbers_used registry.drawn ∷ [];
-  memory = TakesFirst;
-  event = event.Load (registry.drawn + 1) (load_pages file);
-  may_need_units = true;
-  flushes = None;
-  answer = Loaded (registry.drawn + 1) (page_count file) (entry_address file);
-  after = draws (loaded_process file) registry;
-}
+load_row file registry = load_under (next_number registry) file registry
 
 -- `drop`: the process goes, with its pages, their translations and its breakpoints
 abbrev pub drop_row : ℕ → Process → Registry → Row
 drop_row p process registry =
     plain_row false (Some p) [] (event.Drop p)
-    (record {
-      processes = remove registry.processes p;
-      checkpoints = registry.checkpoints;
-      breakpoints = remove registry.breakpoints p;
-      drawn = registry.drawn;
-    })
+    (record registry { processes = remove registry.processes p; breakpoints = remove registry.breakpoints p })
 
--- The changes, a row each, with the file that a command asks for. Compaction moves segments, which no state shows. A command that isn't there changes nothing.
+-- The changes, a row each, with the file that a command asks for. Compaction moves segments, which no state shows. Commands that take
+-- turns or print have no row of their own here: as changes they do nothing.
 abbrev pub change_row : List ℕ → Command → Registry → Row
 change_row file (command.Load name) = load_row file
 change_row file (command.Fork p) = on_process p (fork_row p)
 change_row file (command.Checkpoint p name) = on_process p (checkpoint_row p name)
 change_row file (command.Restore p name) = on_process p (restore_row p name)
 change_row file (command.Forget name) = on_checkpoint name (forget_row name)
-change_row file (command.Speculate p) = on_process p (overlay_row p Speculate)
-change_row file (command.Commit p) = on_process p (overlay_row p Commit)
-change_row file (command.Discard p) = on_process p (overlay_row p Discard)
-change_row file (command.Promote p address) = on_process p (overlay_row p (Promote address))
-change_row file (command.PromoteAll p) = on_process p (overlay_row p PromoteAll)
+change_row file (command.Speculate p) = on_process p (process_row p Speculate)
+change_row file (command.Commit p) = on_process p (process_row p Commit)
+change_row file (command.Discard p) = on_process p (process_row p Discard)
+change_row file (command.Promote p address) = on_process p (process_row p (Promote address))
+change_row file (command.PromoteAll p) = on_process p (process_row p PromoteAll)
 change_row file command.Compact = still_row
-change_row file (command.Map p address n perms) = on_process p (overlay_row p (Map address n perms))
-change_row file (command.Unmap p address n) = on_process p (overlay_row p (Unmap address n))
+change_row file (command.Map p address n perms) = on_process p (process_row p (Map address n perms))
+change_row file (command.Unmap p address n) = on_process p (process_row p (Unmap address n))
 change_row file (command.Drop p) = on_process p (drop_row p)
 change_row file (command.Poke p address bytes) = on_process p (poke_row p address bytes)
-change_row file (command.Set p register value) = on_process p (overlay_row p (Set register value))
+change_row file (command.Set p register value) = on_process p (process_row p (Set register value))
 change_row file (command.Break p address) = on_process p (break_row p address)
 change_row file (command.Unbreak p address) = on_process p (unbreak_row p address)
-change_row file other = still_row
+change_row file (command.Exec name turns) = still_row
+change_row file (command.Run turns) = still_row
+change_row file (command.Step p turns) = still_row
+change_row file command.List = still_row
+change_row file command.Stats = still_row
+change_row file (command.Regs p) = still_row
+change_row file (command.Dump p address count) = still_row
+change_row file (command.Disasm p address words) = still_row
 
 -- what is answered where a machine doesn't load a file, or doesn't copy a space
 abbrev pub answer_of : SpaceError → Answer

@@ -1,4 +1,4 @@
-use Rattle.std.specs.Prelude.{◌≡◌, ℕ, ◌+◌, nat_eq, Bool, true, false, List, [], ◌∷◌, ◌++◌, Option, Some, None, if◌then◌else◌, Result, Ok, Err}
+use Rattle.std.specs.Prelude.{◌≡◌, ℕ, nat_eq, Bool, true, false, List, [], ◌∷◌, ◌++◌, Option, Some, None, if◌then◌else◌, Result, Ok, Err}
 use Rattle.std.specs.Option.{is_some, option_map_or}
 use Rattle.std.specs.FinMap.{empty}
 use Rattle.space_maps.specs.Spaces.{space_in}
@@ -10,14 +10,14 @@ use Rattle.overlay_memory.specs.declared.error.SpaceError.{SpaceError}
 use Rattle.overlay_memory.specs.declared.error.SpaceError.TheVariants.{Full, Memory}
 use Rattle.machine_core.specs.Process.{Process, is_speculating}
 use Rattle.machine_core.specs.Machine.{IsDropped, Machine, StaysBut, Wholes, has_space, spaces_of, wholes}
-use Rattle.report_text.specs.declared.answer.Answer.TheVariants.{Done, Saved}
+use Rattle.report_text.specs.declared.answer.Answer.TheVariants.{Saved}
 use Rattle.report_text.specs.declared.answer.Code.{Code}
 use Rattle.report_text.specs.declared.answer.Code.TheVariants.{NoCheckpoint}
-use Rattle.command_core.specs.State.{Checkpoint, Registry, process_of, whole_of}
+use Rattle.command_core.specs.State.{Checkpoint, Registry, next_number, process_of, whole_of}
 use Rattle.command_core.specs.Rows.{Row, TakesLast, ledger_by, plain_row, refused_row}
-use Rattle.command_core.specs.Refusals.{by_name_taken, by_no_checkpoint, by_numbers_used, by_speculating}
+use Rattle.command_core.specs.Refusals.{by_name_taken, by_no_checkpoint, by_numbers_used, by_speculating, number_in}
 use Rattle.command_core.specs.Copies.{CopyEnds}
-use Rattle.command_core.specs.Overlays.{leaves}
+use Rattle.command_core.specs.ProcessChanges.{leaves}
 
 -- Checkpoints, by name: made, restored and given up.
 
@@ -30,29 +30,24 @@ abbrev pub checkpoints_but : List ℕ → List Checkpoint → List Checkpoint
 checkpoints_but name [] = []
 checkpoints_but name (x ∷ xs) = if pointwise nat_eq name x.name then xs else x ∷ checkpoints_but name xs
 
--- one more, with the next number
-abbrev pub saves : List ℕ → Process → Registry → Registry
-saves name process registry = record {
-  processes = registry.processes;
-  checkpoints = registry.checkpoints ++ record { name = name; space = registry.drawn + 1; whole = whole_of process } ∷ [];
-  breakpoints = registry.breakpoints;
-  drawn = registry.drawn + 1;
+-- one more, with this number
+abbrev pub saves : ℕ → List ℕ → Process → Registry → Registry
+saves n name process registry = record registry {
+  checkpoints = registry.checkpoints ++ record { name = name; space = n; whole = whole_of process } ∷ [];
+  drawn = n;
 }
 
-abbrev pub checkpoint_refusals : Bool → Bool → ℕ → List (Option Code)
-checkpoint_refusals speculating found drawn = by_speculating speculating ∷ by_name_taken found ∷ by_numbers_used drawn ∷ []
+abbrev pub checkpoint_refusals : Bool → Bool → Option ℕ → List (Option Code)
+checkpoint_refusals speculating found next = by_speculating speculating ∷ by_name_taken found ∷ by_numbers_used next ∷ []
 
 -- `checkpoint`: the whole is kept, the last of all, with a copy of the process's pages in the ledger
+abbrev pub checkpoint_under : Option ℕ → ℕ → List ℕ → Process → Registry → Row
+checkpoint_under next p name process registry =
+    record (plain_row true None (checkpoint_refusals (is_speculating process) (is_some (checkpoint_named name registry.checkpoints)) next)
+    (Copy p (number_in next)) (saves (number_in next) name process registry)) { memory = TakesLast; answer = Saved p name (number_in next) }
+
 abbrev pub checkpoint_row : ℕ → List ℕ → Process → Registry → Row
-checkpoint_row p name process registry = record {
-  refusals = checkpoint_refusals (is_speculating process) (is_some (checkpoint_named name registry.checkpoints)) registry.drawn;
-  memory = TakesLast;
-  event = Copy p (registry.drawn + 1);
-  may_need_units = true;
-  flushes = None;
-  answer = Saved p name (registry.drawn + 1);
-  after = saves name process registry;
-}
+checkpoint_row p name process registry = checkpoint_under (next_number registry) p name process registry
 
 abbrev pub restore_refusals : Bool → Bool → List (Option Code)
 restore_refusals speculating found = by_speculating speculating ∷ by_no_checkpoint found ∷ []
@@ -66,15 +61,8 @@ abbrev pub restored : ℕ → Option Checkpoint → Registry → Registry
 restored p found registry = option_map_or (λ x. leaves p (process_of x.whole) registry) found registry
 
 abbrev pub restores : ℕ → Bool → Option Checkpoint → Registry → Row
-restores p speculating found registry = record {
-  refusals = restore_refusals speculating (is_some found);
-  memory = TakesLast;
-  event = restored_pages p found;
-  may_need_units = true;
-  flushes = Some p;
-  answer = Done;
-  after = restored p found registry;
-}
+restores p speculating found registry =
+    record (plain_row true (Some p) (restore_refusals speculating (is_some found)) (restored_pages p found) (restored p found registry)) { memory = TakesLast }
 
 -- `restore`: the process is what was kept, with a copy of the checkpoint's pages in the ledger in the place of its own
 abbrev pub restore_row : ℕ → List ℕ → Process → Registry → Row
@@ -87,25 +75,13 @@ on_checkpoint name row registry = option_map_or (λ x. row x registry) (checkpoi
 -- `forget`: the checkpoint goes, and its pages, of which nothing was translated; the others keep their order
 abbrev pub forget_row : List ℕ → Checkpoint → Registry → Row
 forget_row name x registry =
-    plain_row false (Some x.space) [] (event.Drop x.space)
-    (record {
-      processes = registry.processes;
-      checkpoints = checkpoints_but name registry.checkpoints;
-      breakpoints = registry.breakpoints;
-      drawn = registry.drawn;
-    })
+    plain_row false (Some x.space) [] (event.Drop x.space) (record registry { checkpoints = checkpoints_but name registry.checkpoints })
 
 -- What a checkpoint makes of a machine.
 
 -- the copying machine with a copy of the pages of a space
 abbrev pub with_pages_copied : ℕ → ℕ → Wholes → Wholes
-with_pages_copied from to state =
-    record {
-      processes = state.processes;
-      ledger = ledger_by (Copy from to) state.ledger;
-      frames = state.frames;
-      translations = state.translations;
-    }
+with_pages_copied from to state = record state { ledger = ledger_by (Copy from to) state.ledger }
 
 -- a machine with a space that has the memory of another one, and nothing else changed
 pub record IsSaved (from to : ℕ) (old new : Machine) : Type 0 where

@@ -14,6 +14,7 @@ use Rattle.machine_core.specs.Codes.{memory_code}
 use Rattle.translation_cache.specs.Bare.{BareTranslations}
 use Rattle.translation_cache.specs.Codes.{translations_code}
 use base.Stored.{coded_unit}
+use Rattle.command_core.specs.declared.modes.Modes.{Modes}
 use Rattle.command_core.specs.State.{Checkpoint, State}
 use Rattle.command_core.specs.Sessions.{Bases, InSession}
 
@@ -67,7 +68,10 @@ state_code =
 abbrev pub bases_code : Coded Bases
 bases_code = code coded_ℕ memory_code
 
+abbrev pub modes_code : Coded Modes
+modes_code = code_by (ℕ × ℕ) (coded× coded_ℕ coded_ℕ) (λ m. (m.frames, m.quantum)) (λ t. record { frames = t.0; quantum = t.1 }) (λ _. refl)
+
 abbrev pub session_code : Coded InSession
 session_code =
-    code_by (State × (ℕ × Bases)) (coded× state_code (coded× coded_ℕ bases_code)) (λ s. (s.state, (s.quantum, s.bases)))
-    (λ t. record { state = t.0; quantum = t.1.0; bases = t.1.1 }) (λ _. refl)
+    code_by (State × (Modes × Bases)) (coded× state_code (coded× modes_code bases_code)) (λ s. (s.state, (s.modes, s.bases)))
+    (λ t. record { state = t.0; modes = t.1.0; bases = t.1.1 }) (λ _. refl)

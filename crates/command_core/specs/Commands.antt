@@ -14,6 +14,7 @@ use Rattle.report_text.specs.declared.answer.Code.TheVariants.{NoProcess, Ended,
 use Rattle.report_text.specs.declared.TheConstants.{ROW_BYTES}
 use Rattle.report_text.specs.Answers.{answer_text}
 use Rattle.report_text.specs.Lines.{checkpoint_line, disasm_line, dump_line, list_line, process_line, register_line, regs_line, stats_line}
+use Rattle.command_core.specs.declared.modes.Modes.{Modes}
 use Rattle.command_core.specs.declared.TheConstants.{WORD_BYTES}
 use Rattle.command_core.specs.declared.session.Counts.{Counts}
 use Rattle.command_core.specs.State.{Checkpoint, Registry, State, registry_of, with_wholes}
@@ -39,7 +40,30 @@ asked_by (Some file) = if nat_lt MOST_FILE_BYTES (length file) then IsTooLong el
 abbrev pub asks : Command → Option (List ℕ)
 asks (Exec name turns) = Some name
 asks (Load name) = Some name
-asks other = None
+asks (command.Fork p) = None
+asks (command.Checkpoint p name) = None
+asks (command.Restore p name) = None
+asks (command.Forget name) = None
+asks (command.Speculate p) = None
+asks (command.Commit p) = None
+asks (command.Discard p) = None
+asks (command.Promote p address) = None
+asks (command.PromoteAll p) = None
+asks command.Compact = None
+asks (command.Map p address n perms) = None
+asks (command.Unmap p address n) = None
+asks (command.Drop p) = None
+asks (command.Poke p address bytes) = None
+asks (command.Set p register value) = None
+asks (command.Break p address) = None
+asks (command.Unbreak p address) = None
+asks (Run turns) = None
+asks (Step p turns) = None
+asks command.List = None
+asks command.Stats = None
+asks (command.Regs p) = None
+asks (command.Dump p address count) = None
+asks (command.Disasm p address words) = None
 
 abbrev pub asked_for : Option (List ℕ) → (List ℕ → Option (List ℕ)) → FileAsked
 asked_for None files = AsksNothing
@@ -52,11 +76,14 @@ file_asked files command = asked_for (asks command) files
 abbrev pub has_all : FileAsked → Bool
 has_all IsMissing = false
 has_all IsTooLong = false
-has_all other = true
+has_all AsksNothing = true
+has_all (HasFile file) = true
 
 abbrev pub file_in : FileAsked → List ℕ
 file_in (HasFile file) = file
-file_in other = []
+file_in AsksNothing = []
+file_in IsMissing = []
+file_in IsTooLong = []
 
 -- What a command comes to: its text, the state of a machine after it, and whether it may want memory in place of both.
 pub record Performed (S : Type 0) : Type 0 where
@@ -64,26 +91,26 @@ pub record Performed (S : Type 0) : Type 0 where
   pub after : S
   pub wants_memory : Bool
 
--- By which rules a machine does commands: what is registered in it; what a row comes to, and whether that may want memory; turns; and the
--- counts, printed.
+-- By which rules a machine does commands: what is registered in it; what a row comes to, and whether that may want memory; turns; and
+-- what only the ledger of the copying machine can tell, of which another machine knows no more than the line.
 pub record Rules (S : Type 0) : Type 0 where
   pub registry : S → Registry
   pub change : Row → S → Changed S
   pub wants : Row → S → Bool
   pub turns : Progress → S → Performed S
-  pub counts : S → Performed S
+  pub by_ledger : (State → Performed State) → S → Performed S
 
 -- the line of an answer, and the state
 abbrev pub told : {S : Type 0} → Bool → Changed S → Performed S
 told wants_memory changed = record { text = answer_text changed.answer; after = changed.after; wants_memory = wants_memory }
 
--- a text that is printed, and the state as it is
-abbrev pub text_printed : {S : Type 0} → List ℕ → S → Performed S
-text_printed text state = record { text = text; after = state; wants_memory = false }
+-- a text that is printed, where making it may want memory or not, and the state as it is
+abbrev pub text_printed : {S : Type 0} → Bool → List ℕ → S → Performed S
+text_printed wants_memory text state = record { text = text; after = state; wants_memory = wants_memory }
 
 -- nothing more
 abbrev pub no_more : {S : Type 0} → S → Performed S
-no_more state = text_printed [] state
+no_more state = text_printed false [] state
 
 -- one thing after another
 abbrev pub then_performed : {S : Type 0} → Performed S → (S → Performed S) → Performed S
@@ -119,10 +146,10 @@ unfoldable pub stats_text : State → List ℕ
 stats_text state = counts_text (counts_of state.wholes)
 
 abbrev pub stats_done : State → Performed State
-stats_done state = text_printed (stats_text state) state
+stats_done state = text_printed false (stats_text state) state
 
 abbrev pub rules : Rules State
-rules = record { registry = registry_of; change = change_by; wants = may_want_memory; turns = takes_turns; counts = stats_done }
+rules = record { registry = registry_of; change = change_by; wants = may_want_memory; turns = takes_turns; by_ledger = λ done. done }
 
 -- a process that was just loaded is there, and runs
 abbrev pub RunsLoaded : Answer → State → Type 0
@@ -168,7 +195,7 @@ regs_text p process = regs_head p process ++ registers_text process.registers
 -- the registers of a process, which has to be there
 abbrev pub regs_of : {S : Type 0} → ℕ → Option Process → S → Performed S
 regs_of p None state = told false (refuses NoProcess state)
-regs_of p (Some process) state = text_printed (regs_text p process) state
+regs_of p (Some process) state = text_printed false (regs_text p process) state
 
 -- the lines of bytes of a memory from an address on, up to 16 a line; and those of words, as instructions
 abbrev pub dump_row : Memory → ℕ → ℕ → List ℕ
@@ -191,7 +218,7 @@ disasm_text memory address (suc words) = disasm_row memory address ++ disasm_tex
 
 -- what is printed of n bytes of a process from an address on: it has to be there, and so does each byte, whatever the permissions
 abbrev pub prints_read : {S : Type 0} → (Memory → List ℕ) → Memory → Option ℕ → S → Performed S
-prints_read text memory None state = text_printed (text memory) state
+prints_read text memory None state = text_printed false (text memory) state
 prints_read text memory (Some at) state = told false (refuses (Unmapped at) state)
 
 abbrev pub prints_of : {S : Type 0} → ℕ → ℕ → (Memory → List ℕ) → Option Process → S → Performed S
@@ -244,7 +271,7 @@ module _ {S : Type 0} (by : Rules S) where
 
   -- what is printed
   abbrev pub list_done : S → Performed S
-  list_done state = text_printed (list_text (by.registry state)) state
+  list_done state = text_printed false (list_text (by.registry state)) state
 
   abbrev pub regs_done : ℕ → S → Performed S
   regs_done p state = regs_of p (process_in p state) state
@@ -256,22 +283,39 @@ module _ {S : Type 0} (by : Rules S) where
   disasm_done p address words state =
       prints_of address (WORD_BYTES * words) (λ memory. disasm_text memory address words) (process_in p state) state
 
-  -- What each command comes to, with the file that it has, in turns of a quantum: turns and printed lines have a line here, all others
-  -- are changes.
-  abbrev pub performed_by : ℕ → List ℕ → Command → S → Performed S
-  performed_by quantum file (Exec name turns) = exec_done file turns
-  performed_by quantum file (Run turns) = run_done quantum turns
-  performed_by quantum file (Step p turns) = step_done p turns
-  performed_by quantum file command.List = list_done
-  performed_by quantum file command.Stats = by.counts
-  performed_by quantum file (command.Regs p) = regs_done p
-  performed_by quantum file (command.Dump p address count) = dump_done p address count
-  performed_by quantum file (command.Disasm p address words) = disasm_done p address words
-  performed_by quantum file other = change_told file other
+  -- What each command comes to, with the file that it has, by what is fixed for the run: turns and printed lines, and the
+  -- changes, each by its row.
+  abbrev pub performed_by : Modes → List ℕ → Command → S → Performed S
+  performed_by modes file (Exec name turns) = exec_done file turns
+  performed_by modes file (Run turns) = run_done modes.quantum turns
+  performed_by modes file (Step p turns) = step_done p turns
+  performed_by modes file command.List = list_done
+  performed_by modes file command.Stats = by.by_ledger stats_done
+  performed_by modes file (command.Regs p) = regs_done p
+  performed_by modes file (command.Dump p address count) = dump_done p address count
+  performed_by modes file (command.Disasm p address words) = disasm_done p address words
+  performed_by modes file (Load name) = change_told file (Load name)
+  performed_by modes file (command.Fork p) = change_told file (command.Fork p)
+  performed_by modes file (command.Checkpoint p name) = change_told file (command.Checkpoint p name)
+  performed_by modes file (command.Restore p name) = change_told file (command.Restore p name)
+  performed_by modes file (command.Forget name) = change_told file (command.Forget name)
+  performed_by modes file (command.Speculate p) = change_told file (command.Speculate p)
+  performed_by modes file (command.Commit p) = change_told file (command.Commit p)
+  performed_by modes file (command.Discard p) = change_told file (command.Discard p)
+  performed_by modes file (command.Promote p address) = change_told file (command.Promote p address)
+  performed_by modes file (command.PromoteAll p) = change_told file (command.PromoteAll p)
+  performed_by modes file command.Compact = change_told file command.Compact
+  performed_by modes file (command.Map p address n perms) = change_told file (command.Map p address n perms)
+  performed_by modes file (command.Unmap p address n) = change_told file (command.Unmap p address n)
+  performed_by modes file (command.Drop p) = change_told file (command.Drop p)
+  performed_by modes file (command.Poke p address bytes) = change_told file (command.Poke p address bytes)
+  performed_by modes file (command.Set p register value) = change_told file (command.Set p register value)
+  performed_by modes file (command.Break p address) = change_told file (command.Break p address)
+  performed_by modes file (command.Unbreak p address) = change_told file (command.Unbreak p address)
 
 -- by those of the copying machine; and the same in a session
-abbrev pub performed : ℕ → List ℕ → Command → State → Performed State
-performed quantum file command = performed_by rules quantum file command
+abbrev pub performed : Modes → List ℕ → Command → State → Performed State
+performed modes file command = performed_by rules modes file command
 
 abbrev pub performed_in : InSession → List ℕ → Command → Performed State
-performed_in session file command = performed session.quantum file command session.state
+performed_in session file command = performed session.modes file command session.state

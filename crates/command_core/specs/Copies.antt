@@ -1,4 +1,4 @@
-use Rattle.std.specs.Prelude.{◌≡◌, ℕ, ◌+◌, Bool, true, false, List, [], ◌∷◌, Option, Some, None, Result, Ok, Err}
+use Rattle.std.specs.Prelude.{◌≡◌, ℕ, Bool, true, false, List, [], ◌∷◌, Option, Some, None, Result, Ok, Err}
 use Rattle.std.specs.FinMap.{empty, get, insert, remove}
 use Rattle.ovl_io.specs.declared.process_state.ProcessState.{ProcessState}
 use Rattle.ledger.specs.Events.{Copy}
@@ -11,35 +11,33 @@ use Rattle.machine_core.specs.Machine.{IsDropped, Machine, StaysBut, Wholes, has
 use Rattle.machine_core.specs.Load.{IsAsBefore}
 use Rattle.report_text.specs.declared.answer.Answer.TheVariants.{Forked}
 use Rattle.report_text.specs.declared.answer.Code.{Code}
-use Rattle.command_core.specs.State.{Registry}
-use Rattle.command_core.specs.Rows.{Row, TakesLast, event_needs, flushed_by, is_event_full, ledger_by}
-use Rattle.command_core.specs.Refusals.{by_ended, by_numbers_used, by_speculating}
+use Rattle.command_core.specs.State.{Registry, next_number}
+use Rattle.command_core.specs.Rows.{Row, TakesLast, event_needs, first_refusal, flushed_by, is_event_full, ledger_by, plain_row}
+use Rattle.command_core.specs.Refusals.{by_ended, by_numbers_used, by_speculating, number_in}
 
 -- What a fork makes of a process that is there.
 
--- a further process, under the next number, without breakpoints
-abbrev pub draws : Process → Registry → Registry
-draws process registry = record {
-  processes = insert registry.processes (registry.drawn + 1) process;
-  checkpoints = registry.checkpoints;
-  breakpoints = remove registry.breakpoints (registry.drawn + 1);
-  drawn = registry.drawn + 1;
-}
+-- a further process, under this number, without breakpoints
+abbrev pub draws : ℕ → Process → Registry → Registry
+draws n process registry =
+    record registry { processes = insert registry.processes n process; breakpoints = remove registry.breakpoints n; drawn = n }
 
-abbrev pub fork_refusals : ProcessState → Bool → ℕ → List (Option Code)
-fork_refusals state speculating drawn = by_ended state ∷ by_speculating speculating ∷ by_numbers_used drawn ∷ []
+abbrev pub fork_refusals : ProcessState → Bool → Option ℕ → List (Option Code)
+fork_refusals state speculating next = by_ended state ∷ by_speculating speculating ∷ by_numbers_used next ∷ []
 
 -- `fork`: the same process under the next number too, with a copy of its pages in the ledger
+abbrev pub fork_under : Option ℕ → ℕ → Process → Registry → Row
+fork_under next p process registry =
+    record (plain_row true None (fork_refusals process.state (is_speculating process) next) (Copy p (number_in next)) (draws (number_in next) process registry))
+    { memory = TakesLast; answer = Forked p (number_in next) }
+
 abbrev pub fork_row : ℕ → Process → Registry → Row
-fork_row p process registry = record {
-  refusals = fork_refusals process.state (is_speculating process) registry.drawn;
-  memory = TakesLast;
-  event = Copy p (registry.drawn + 1);
-  may_need_units = true;
-  flushes = None;
-  answer = Forked p (registry.drawn + 1);
-  after = draws process registry;
-}
+fork_row p process registry = fork_under (next_number registry) p process registry
+
+-- the number that a change takes, or its first refusal
+abbrev pub GivesNumber : List (Option Code) → Option ℕ → Result ℕ Code → Type 0
+GivesNumber refusals next (Ok n) = (first_refusal refusals ≡ None) × (next ≡ Some n)
+GivesNumber refusals next (Err code) = first_refusal refusals ≡ Some code
 
 -- How a copy of a space comes out: full exactly where the units of the ledger after it exceed the limit, and then nothing changes. Want
 -- of memory comes only where they don't, and then there are the spaces and processes that there were.
@@ -54,10 +52,9 @@ CopyEnds from to old new Done (Err error) = CopyFails from to old new error
 
 -- the copying machine with a process under a number, and a copy of the pages of another one, where the translations of a process go
 abbrev pub with_process_copy : Option ℕ → ℕ → ℕ → Process → Wholes → Wholes
-with_process_copy flushes from to process state = record {
+with_process_copy flushes from to process state = record state {
   processes = insert state.processes to process;
   ledger = ledger_by (Copy from to) state.ledger;
-  frames = state.frames;
   translations = flushed_by flushes state.translations;
 }
 

@@ -16,7 +16,7 @@ use Rattle.report_text.specs.declared.answer.Code.TheVariants.{Forbidden, Unmapp
 use Rattle.command_core.specs.State.{Registry}
 use Rattle.command_core.specs.Rows.{MemoryTaken, Row, TakesLast, TakesNone, plain_row}
 use Rattle.command_core.specs.Refusals.{has_page}
-use Rattle.command_core.specs.Overlays.{leaves, with_pages}
+use Rattle.command_core.specs.ProcessChanges.{leaves, with_pages}
 
 -- What the debugger changes: bytes of memory, and breakpoints.
 
@@ -41,12 +41,7 @@ poke_answer (memory.Full needed limit) = Full needed limit
 
 -- with other breakpoints
 abbrev pub with_breaks : Breaks → Registry → Registry
-with_breaks breakpoints registry = record {
-  processes = registry.processes;
-  checkpoints = registry.checkpoints;
-  breakpoints = breakpoints;
-  drawn = registry.drawn;
-}
+with_breaks breakpoints registry = record registry { breakpoints = breakpoints }
 
 -- a breakpoint that is there takes no memory
 abbrev pub break_memory : Bool → MemoryTaken
@@ -54,15 +49,9 @@ break_memory there = if there then TakesNone else TakesLast
 
 -- `break`: the process has one more, unless it is there
 abbrev pub break_row : ℕ → ℕ → Process → Registry → Row
-break_row p address process registry = record {
-  refusals = [];
-  memory = break_memory (has_break registry.breakpoints p address);
-  event = event.Other;
-  may_need_units = false;
-  flushes = None;
-  answer = Done;
-  after = with_breaks (with_break registry.breakpoints p address) registry;
-}
+break_row p address process registry =
+    record (plain_row false None [] event.Other (with_breaks (with_break registry.breakpoints p address) registry))
+    { memory = break_memory (has_break registry.breakpoints p address) }
 
 -- `unbreak`: it hasn't it any more
 abbrev pub unbreak_row : ℕ → ℕ → Process → Registry → Row

@@ -6,6 +6,7 @@ use Rattle.overlay_pages.specs.State.{State, memory_of}
 use Rattle.machine_core.specs.declared.process.Process.{Process}
 use Rattle.machine_core.specs.Machine.{Machine, spaces_of}
 use Rattle.report_text.specs.Answers.{IsCheckpointName}
+use Rattle.command_core.specs.declared.modes.Modes.{Modes}
 use Rattle.command_core.specs.declared.checkpoints.Kept.{Kept}
 use Rattle.command_core.specs.State.{Checkpoint, State as Shown}
 use Rattle.command_core.specs.Sessions.{InSession, bases_of, session_state}
@@ -47,9 +48,9 @@ checkpoints_in spaces xs = map (checkpoint_in spaces) xs
 abbrev pub shown_state : Machine → List Kept → Breaks → ℕ → Shown
 shown_state machine xs breakpoints drawn = session_state machine (checkpoints_in (spaces_of machine) xs) breakpoints drawn
 
-abbrev pub shown_session : Machine → List Kept → Breaks → ℕ → ℕ → InSession
-shown_session machine xs breakpoints drawn quantum =
-    record { state = shown_state machine xs breakpoints drawn; quantum = quantum; bases = bases_of (spaces_of machine) }
+abbrev pub shown_session : Machine → List Kept → Breaks → ℕ → Modes → InSession
+shown_session machine xs breakpoints drawn modes =
+    record { state = shown_state machine xs breakpoints drawn; modes = modes; bases = bases_of (spaces_of machine) }
 
 -- the spaces of checkpoints
 abbrev pub spaces_kept : List Kept → List ℕ

@@ -9,7 +9,7 @@ pub mod Rows
 pub mod Giving
 pub mod Refusals
 pub mod Copies
-pub mod Overlays
+pub mod ProcessChanges
 pub mod Mapping
 pub mod Checkpoints
 pub mod Debugging

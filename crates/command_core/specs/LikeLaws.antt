@@ -23,6 +23,7 @@ use Rattle.report_text.specs.declared.answer.Stop.{Stop}
 use Rattle.report_text.specs.declared.answer.Stop.TheVariants as stop
 use Rattle.report_text.specs.Answers.{answer_text, stop_text, turn_text}
 use Rattle.script_text.specs.declared.command.Command.{Command}
+use Rattle.command_core.specs.declared.modes.Modes.{Modes}
 use Rattle.command_core.specs.declared.turns.Order.{Order}
 use Rattle.command_core.specs.declared.turns.Order.TheVariants.{ByTurns, Alone}
 use Rattle.command_core.specs.declared.TheConstants.{WORD_BYTES}
@@ -383,12 +384,12 @@ stats_same a b like = ap counts_text (counts_same a.wholes b.wholes like.wholes)
 like_changed : (file : List ℕ) (c : Command) (a b : State) → AreLikeStates a b → AreLikePerformed (change_told rules file c a) (change_told rules file c b)
 like_changed file c a b like = like_told (change_row file c) a b like
 
-pub like_performed : (quantum : ℕ) (file : List ℕ) (c : Command) (a b : State) → AreLikeStates a b → AreLikePerformed (performed quantum file c a) (performed quantum file c b)
-like_performed quantum file command a b like = by_case command (goes_by rules rules quantum file command)
+pub like_performed : (modes : Modes) (file : List ℕ) (c : Command) (a b : State) → AreLikeStates a b → AreLikePerformed (performed modes file c a) (performed modes file c b)
+like_performed modes file command a b like = by_case command (goes_by rules rules modes file command)
   where
-    by_case : (c : Command) → GoesBy rules rules quantum file c → AreLikePerformed (performed quantum file c a) (performed quantum file c b)
+    by_case : (c : Command) → GoesBy rules rules modes file c → AreLikePerformed (performed modes file c a) (performed modes file c b)
     by_case _ (ByExec name turns) = like_exec file turns a b like
-    by_case _ (ByRun turns) = like_takes (by_turns quantum turns) a b like
+    by_case _ (ByRun turns) = like_takes (by_turns modes.quantum turns) a b like
     by_case _ (ByStep p turns) = like_step p turns a b like
     by_case _ ByList = record { text = list_same a b like; after = like; wants = refl }
     by_case _ ByStats = record { text = stats_same a b like; after = like; wants = refl }
@@ -396,5 +397,5 @@ like_performed quantum file command a b like = by_case command (goes_by rules ru
     by_case _ (ByDump p address count) = like_prints p address count (λ memory. dump_text memory address count) a b like
     by_case _ (ByDisasm p address words) = like_prints p address (WORD_BYTES * words) (λ memory. disasm_text memory address words) a b like
     by_case _ (ByChange c here there counts) =
-        subst (λ x. AreLikePerformed x (performed quantum file c b)) (sym (here a))
+        subst (λ x. AreLikePerformed x (performed modes file c b)) (sym (here a))
         (subst (λ y. AreLikePerformed (change_told rules file c a) y) (sym (here b)) (like_changed file c a b like))

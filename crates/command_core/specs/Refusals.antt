@@ -1,7 +1,7 @@
 use Rattle.std.specs.Prelude.{ℕ, zero, suc, ◌+◌, ◌*◌, ◌/◌, ◌%◌, ◌==◌, ◌||◌, nat_lt, not, Bool, if◌then◌else◌, List, [], ◌∷◌, Option, Some, None}
-use Rattle.std.specs.Option.{is_some, option_map}
+use Rattle.std.specs.Option.{is_some, option_map, unwrap_or}
 use Rattle.std.specs.FinMap.{get, len}
-use Rattle.sizes.specs.declared.TheConstants.{ADDRESS_END, LAST_SPACE, MOST_SPACE_PAGES, PAGE_BYTES}
+use Rattle.sizes.specs.declared.TheConstants.{ADDRESS_END, MOST_SPACE_PAGES, PAGE_BYTES}
 use Rattle.ovl_io.specs.Memory.{Memory}
 use Rattle.ovl_io.specs.declared.process_state.ProcessState.{ProcessState}
 use Rattle.machine_core.specs.Process.{runs}
@@ -72,6 +72,9 @@ map_refusals address n speculating memory =
 abbrev pub unmap_refusals : ℕ → ℕ → Bool → Memory → List (Option Code)
 unmap_refusals address n speculating memory = place_refusals speculating (lie_outside address n) (by_missing address n memory)
 
--- all numbers were drawn
-abbrev pub by_numbers_used : ℕ → Option Code
-by_numbers_used drawn = refused_if (drawn == LAST_SPACE) NumbersUsed
+-- there is no next number; and the number that there is
+abbrev pub by_numbers_used : Option ℕ → Option Code
+by_numbers_used next = refused_if (not (is_some next)) NumbersUsed
+
+abbrev pub number_in : Option ℕ → ℕ
+number_in next = unwrap_or next 0

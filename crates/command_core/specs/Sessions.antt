@@ -10,13 +10,18 @@ use Rattle.breakpoints.specs.Breakpoints.{Breaks}
 use Rattle.sizes.specs.declared.TheConstants.{LAST_SPACE}
 use Rattle.space_maps.specs.Spaces.{space_in}
 use Rattle.machine_core.specs.Machine.{Machine, has_saved, has_space, is_marked, spaces_of, wholes}
-use Rattle.command_core.specs.State.{Checkpoint, State}
+use Rattle.command_core.specs.declared.modes.Modes.{Modes}
+use Rattle.command_core.specs.State.{Checkpoint, State, fresh}
 
 -- What a session keeps, and the state that it shows.
 
 -- each process has its memory
 abbrev pub OwnSpaces : Machine → Type 0
 OwnSpaces machine = (p : ℕ) → is_some (get machine.processes p) ≡ true → has_space machine p ≡ true
+
+-- no page awaits being shared
+abbrev pub NoneAwaits : Machine → Type 0
+NoneAwaits machine = (p : ℕ) → (space_in (spaces_of machine) p).awaiting ≡ empty
 
 -- a space that is there and has no process, as that of a checkpoint
 abbrev pub HasNoProcess : Machine → ℕ → Type 0
@@ -35,7 +40,7 @@ pub record IsSession (machine : Machine) (spaces : List ℕ) (drawn : ℕ) : Typ
   pub no_space : (p : ℕ) → drawn < p → has_space machine p ≡ false
   pub no_process : (p : ℕ) → drawn < p → get machine.processes p ≡ None
   pub own_space : OwnSpaces machine
-  pub none_awaits : (p : ℕ) → (space_in (spaces_of machine) p).awaiting ≡ empty
+  pub none_awaits : NoneAwaits machine
   pub kept : (p : ℕ) → is_marked machine p ≡ has_saved machine p
   pub free : AllByRecursion (HasNoProcess machine) spaces
   pub rise : RiseTo 0 spaces drawn
@@ -65,15 +70,19 @@ Bases = FinMap nat_cmp Memory
 unfoldable pub bases_of : Spaces → Bases
 bases_of spaces = viewed (λ p _. base_of spaces p) spaces.spaces
 
--- A session: the state, the quantum of turns by round robin, and the bases of all spaces.
+-- A session: the state, what is fixed for the whole run, and the bases of all spaces.
 pub record InSession : Type 0 where
   pub state : State
-  pub quantum : ℕ
+  pub modes : Modes
   pub bases : Bases
+
+-- one without a process
+abbrev pub fresh_session : Modes → InSession
+fresh_session modes = record { state = fresh modes; modes = modes; bases = empty }
 
 -- all but the processes is as it was
 pub record KeepsRest (old new : InSession) : Type 0 where
   pub checkpoints : new.state.checkpoints ≡ old.state.checkpoints
   pub breakpoints : new.state.breakpoints ≡ old.state.breakpoints
   pub drawn : new.state.drawn ≡ old.state.drawn
-  pub quantum : new.quantum ≡ old.quantum
+  pub modes : new.modes ≡ old.modes

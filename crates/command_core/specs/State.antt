@@ -1,4 +1,5 @@
-use Rattle.std.specs.Prelude.{◌≡◌, ℕ, List, [], None}
+use Rattle.std.specs.Prelude.{◌≡◌, ℕ, ◌+◌, nat_lt, if◌then◌else◌, List, [], Option, Some, None}
+use Rattle.sizes.specs.declared.TheConstants.{LAST_SPACE}
 use Rattle.std.specs.FinMap.{empty}
 use Rattle.breakpoints.specs.Breakpoints.{Breaks}
 use Rattle.ledger.specs.Ledger.{Ledger}
@@ -6,6 +7,7 @@ use Rattle.translation_cache.specs.Bare.{BareTranslations}
 use Rattle.translation_cache.specs.Translations.{no_translations}
 use Rattle.machine_core.specs.Process.{Process, Whole}
 use Rattle.machine_core.specs.Machine.{AreLike, Processes, Wholes}
+use Rattle.command_core.specs.declared.modes.Modes.{Modes}
 
 -- A checkpoint: its name, the number of its space, and the whole that is kept.
 pub record Checkpoint : Type 0 where
@@ -21,17 +23,17 @@ pub record State : Type 0 where
   pub breakpoints : Breaks
   pub drawn : ℕ
 
--- the state at the start, with so many frames
-abbrev pub fresh : ℕ → State
-fresh frames = record {
-  wholes = record { processes = empty; ledger = empty; frames = frames; translations = no_translations };
+-- the state at the start
+abbrev pub fresh : Modes → State
+fresh modes = record {
+  wholes = record { processes = empty; ledger = empty; frames = modes.frames; translations = no_translations };
   checkpoints = [];
   breakpoints = empty;
   drawn = 0;
 }
 
 abbrev pub with_wholes : Wholes → State → State
-with_wholes wholes state = record { wholes = wholes; checkpoints = state.checkpoints; breakpoints = state.breakpoints; drawn = state.drawn }
+with_wholes wholes state = record state { wholes = wholes }
 
 -- What a command looks at and leaves: all of the state but the ledger, the frames and the translations. Those say only whether there are
 -- units enough, and what is counted.
@@ -40,6 +42,13 @@ pub record Registry : Type 0 where
   pub checkpoints : List Checkpoint
   pub breakpoints : Breaks
   pub drawn : ℕ
+
+-- The next number, of a process or of a checkpoint: none where all were drawn.
+abbrev pub number_after : ℕ → Option ℕ
+number_after drawn = if nat_lt drawn LAST_SPACE then Some (drawn + 1) else None
+
+abbrev pub next_number : Registry → Option ℕ
+next_number registry = number_after registry.drawn
 
 abbrev pub registry_of : State → Registry
 registry_of state =

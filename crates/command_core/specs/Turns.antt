@@ -1,4 +1,4 @@
-use Rattle.std.specs.Prelude.{◌≡◌, ℕ, zero, suc, ◌+◌, ◌-◌, ◌==◌, ◌&&◌, List, [], ◌∷◌, ◌++◌, flat_map, min, Option, Some, None, if◌then◌else◌}
+use Rattle.std.specs.Prelude.{◌≡◌, ℕ, zero, suc, ◌+◌, ◌-◌, ◌==◌, ◌&&◌, true, List, [], ◌∷◌, ◌++◌, flat_map, min, Option, Some, None, if◌then◌else◌}
 use Rattle.std.specs.Option.{option_and_then, option_map_or, option_or}
 use Rattle.std.specs.FinMap.{get}
 use Rattle.std.specs.FinSet.{contains}
@@ -8,14 +8,16 @@ use Rattle.machine_core.specs.declared.process.Process as declared
 use Rattle.ovl_io.specs.declared.turn.Turn.{Turn}
 use Rattle.ovl_io.specs.declared.turn.Turn.TheVariants as turn
 use Rattle.machine_core.specs.Process.{Process, runs}
-use Rattle.machine_core.specs.Machine.{AreLike, Processes, Wholes, running_among, runs_among}
-use Rattle.machine_core.specs.Turns.{after_turn, turn_of}
+use Rattle.rv_execute.specs.declared.outcome.Outcome.{Outcome}
+use Rattle.machine_core.specs.Ample.{is_full_turn}
+use Rattle.machine_core.specs.Machine.{AreLike, Processes, Wholes, is_running, running_among, runs_among}
+use Rattle.machine_core.specs.Turns.{after_execution, after_turn, came_to, turn_of}
 use Rattle.round_robin.specs.Turns.{next_number, after_turn_of, after_turns_of, left_for}
 use Rattle.command_core.specs.declared.turns.Order.{Order}
 use Rattle.command_core.specs.declared.turns.Order.TheVariants.{ByTurns, Alone}
 use Rattle.report_text.specs.declared.answer.Stop.{Stop}
 use Rattle.report_text.specs.declared.answer.Stop.TheVariants.{Limit, Idle, Ended, Break, Full}
-use Rattle.report_text.specs.Answers.{turn_text, stop_text}
+use Rattle.report_text.specs.Answers.{has_turn_line, turn_text, stop_text}
 
 -- The turns of `run` and `step`.
 
@@ -121,11 +123,7 @@ first_event p turn others = record { events = (p, turn) ∷ others.events; stop 
 
 -- One that is answered Full ends the turns, in the state that it left: it isn't counted.
 abbrev pub event_then : {M : Type 0} → ℕ → Turn → Ran M → M → Progress → Ran M
-event_then p turn.Stepped others left run = first_event p turn.Stepped others
-event_then p (turn.Wrote written) others left run = first_event p (turn.Wrote written) others
-event_then p (turn.Exited code) others left run = first_event p (turn.Exited code) others
-event_then p (turn.Faulted kind at) others left run = first_event p (turn.Faulted kind at) others
-event_then p (turn.Full units limit) others left run = first_event p (turn.Full units limit) (stopped Full left run)
+event_then p turn others left run = first_event p turn (if is_full_turn turn then stopped Full left run else others)
 
 abbrev pub turns_by : {M : Type 0} → (ℕ → Turn) → (ℕ → M) → Option ℕ → (ℕ → Ran M) → M → Progress → Ran M
 turns_by came after None others state run = stopped (rest_of run.order) state run
@@ -188,20 +186,28 @@ run_found breaks state run = record { run = run; stop = ending breaks state run 
 abbrev pub found_before : Breaks → Wholes → InRun → Option Stop
 found_before breaks state running = option_or running.stop (ending breaks state running.run)
 
--- the run after a turn of p, which left this state
+-- the run after a turn of p: one that is answered Full isn't counted, and ends it
+abbrev pub run_counted : Turn → ℕ → Progress → InRun
+run_counted turn p run = if is_full_turn turn then record { run = run; stop = Some Full } else record { run = run_after p run; stop = None }
+
+-- with the ending that holds in the state that the turn left
 abbrev pub run_altered : Breaks → Turn → ℕ → Wholes → Progress → InRun
-run_altered breaks turn.Stepped p state run = run_found breaks state (run_after p run)
-run_altered breaks (turn.Wrote written) p state run = run_found breaks state (run_after p run)
-run_altered breaks (turn.Exited code) p state run = run_found breaks state (run_after p run)
-run_altered breaks (turn.Faulted kind at) p state run = run_found breaks state (run_after p run)
-run_altered breaks (turn.Full units limit) p state run = record { run = run; stop = Some Full }
+run_altered breaks turn p state run =
+    record { run = (run_counted turn p run).run; stop = found_before breaks state (run_counted turn p run) }
 
 abbrev pub TakesTurn : Breaks → Wholes → InRun → Option (ℕ × Turn) → Wholes → InRun → Type 0
 TakesTurn breaks old running None new after =
     (new ≡ old) × ((stop : Stop) × (found_before breaks old running ≡ Some stop) × (after ≡ record { run = running.run; stop = Some stop }))
 TakesTurn breaks old running (Some (p, turn)) new after =
-    (found_before breaks old running ≡ None) × (next_of old running.run.order ≡ Some p) × (turn ≡ turn_of old p) × (new ≡ after_turn old p)
-    × (after ≡ run_altered breaks turn p new running.run)
+    (found_before breaks old running ≡ None) × (next_of old running.run.order ≡ Some p) × (turn ≡ turn_of old p)
+    × AreLike new (after_turn old p) × (after ≡ run_altered breaks turn p new running.run)
+
+-- The rest of a turn of a process whose execution came to this: in each state in which it did, what the turn comes to,
+-- and the machine after it.
+abbrev pub FinishesTurn : ℕ → Outcome → Wholes → Turn → Wholes → Type 0
+FinishesTurn p outcome executed turn new =
+    (old : Wholes) → is_running old p ≡ true → came_to old p ≡ outcome → AreLike executed (after_execution old p)
+    → (turn ≡ turn_of old p) × AreLike new (after_turn old p)
 
 -- What is left of a run in progress: nothing, where an ending was found.
 abbrev pub left_by : Option Stop → Breaks → Wholes → Progress → Ran Wholes
@@ -215,20 +221,19 @@ left_of breaks state running = left_by running.stop breaks state running.run
 abbrev pub lines_left : InRun → ℕ
 lines_left running = option_map_or (λ stop. 0) running.stop (running.run.turns - running.run.taken + 1)
 
--- Turns up to one that has a line: its line comes first, and then what the others come to. Where none has one, the
--- run has ended.
-abbrev pub Speaks : Breaks → Wholes → InRun → List ℕ → Wholes → InRun → Type 0
-Speaks breaks old running line new after =
-    (ran_text (left_of breaks old running) ≡ line ++ ran_text (left_of breaks new after))
-    × AreLike (left_of breaks old running).after (left_of breaks new after).after
+-- turns say this first, and then what others say; both leave the same
+abbrev pub SaysThen : List ℕ → Ran Wholes → Ran Wholes → Type 0
+SaysThen line all others = (ran_text all ≡ line ++ ran_text others) × AreLike all.after others.after
 
--- turns without a line: what is left comes to what all came to
-abbrev pub GoesOn : Breaks → Wholes → Progress → Wholes → Progress → Type 0
-GoesOn breaks old run new after =
-    (ran_text (ran_from breaks old run) ≡ ran_text (ran_from breaks new after))
-    × ((ran_from breaks old run).after ≡ (ran_from breaks new after).after)
+-- Turns up to one that has a line: its line comes first, and then what the others come to. Where none has one, no line comes
+-- first, and the run has ended.
+abbrev pub Speaks : Breaks → Wholes → InRun → List ℕ → Wholes → InRun → Type 0
+Speaks breaks old running line new after = SaysThen line (left_of breaks old running) (left_of breaks new after)
+
+-- a line of one turn
+abbrev pub IsTurnLine : List ℕ → Type 0
+IsTurnLine line = (p : ℕ) × (turn : Turn) × (has_turn_line turn ≡ true) × (line ≡ turn_text p turn)
 
 abbrev pub EndsRun : Breaks → Wholes → InRun → Wholes → InRun → Type 0
 EndsRun breaks old running new after =
-    (stop : Stop) × (after.stop ≡ Some stop) × (ran_text (left_of breaks old running) ≡ stop_text after.run.taken stop)
-    × AreLike (left_of breaks old running).after new
+    (stop : Stop) × (after.stop ≡ Some stop) × SaysThen [] (left_of breaks old running) (stopped stop new after.run)

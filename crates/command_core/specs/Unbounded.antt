@@ -9,7 +9,7 @@ use Rattle.machine_core.specs.Turns.{process_after, step_of}
 use Rattle.command_core.specs.State.{Registry}
 use Rattle.command_core.specs.Rows.{Changed, Row, first_refusal, refuses, wants_by}
 use Rattle.command_core.specs.Turns.{Progress, Ran, TurnRules, last_reached, next_among, ran_by, ran_text}
-use Rattle.command_core.specs.Commands.{Performed, Rules}
+use Rattle.command_core.specs.Commands.{Performed, Rules, text_printed}
 
 -- The unbounded machine: it copies the whole memory at each fork, checkpoint and speculation start, and there is always room. It has
 -- no ledger, no frames and no limit, and nothing is ever full.
@@ -24,21 +24,13 @@ after_step_of processes p = option_map_or (λ process. insert processes p (proce
 abbrev pub unbounded_turns : Breaks → TurnRules Processes
 unbounded_turns breaks = record { next = next_among; broken = last_reached breaks; turn = step_among; after = after_step_of }
 
--- Its state: what is registered; and the lines that `stats` will print, one after the other, since those tell of a ledger.
+-- Its state: what is registered; and the lines of the commands that are told by the ledger, one after the other.
 pub record Unbounded : Type 0 where
   pub registry : Registry
-  pub counts : List (List ℕ)
+  pub told : List (List ℕ)
 
 abbrev pub with_processes : Processes → Unbounded → Unbounded
-with_processes processes state = record {
-  registry = record {
-    processes = processes;
-    checkpoints = state.registry.checkpoints;
-    breakpoints = state.registry.breakpoints;
-    drawn = state.registry.drawn;
-  };
-  counts = state.counts;
-}
+with_processes processes state = record state { registry = record (state.registry) { processes = processes } }
 
 -- all turns that are left of a run
 abbrev pub unbounded_ran : Breaks → Processes → Progress → Ran Processes
@@ -53,7 +45,7 @@ takes_unbounded run state = record {
 
 -- A change: the first refusal, or the row's answer and what it leaves.
 abbrev pub does_row : Row → Unbounded → Changed Unbounded
-does_row row state = record { answer = row.answer; after = record { registry = row.after; counts = state.counts } }
+does_row row state = record { answer = row.answer; after = record state { registry = row.after } }
 
 abbrev pub change_unbounded : Row → Unbounded → Changed Unbounded
 change_unbounded row state = option_map_or (λ code. refuses code state) (first_refusal row.refusals) (does_row row state)
@@ -61,10 +53,10 @@ change_unbounded row state = option_map_or (λ code. refuses code state) (first_
 abbrev pub wants_unbounded : Row → Unbounded → Bool
 wants_unbounded row state = wants_by row.memory (is_some (first_refusal row.refusals)) false
 
--- `stats` prints the next of those lines
-abbrev pub next_counts : List (List ℕ) → Registry → Performed Unbounded
-next_counts [] registry = record { text = []; after = record { registry = registry; counts = [] }; wants_memory = false }
-next_counts (line ∷ counts) registry = record { text = line; after = record { registry = registry; counts = counts }; wants_memory = false }
+-- what is told by the ledger: the next of those lines, and nothing changes
+abbrev pub next_told : List (List ℕ) → Registry → Performed Unbounded
+next_told [] registry = text_printed false [] (record { registry = registry; told = [] })
+next_told (line ∷ told) registry = text_printed false line (record { registry = registry; told = told })
 
 abbrev pub unbounded : Rules Unbounded
 unbounded = record {
@@ -72,9 +64,9 @@ unbounded = record {
   change = change_unbounded;
   wants = wants_unbounded;
   turns = takes_unbounded;
-  counts = λ state. next_counts state.counts state.registry;
+  by_ledger = λ done state. next_told state.told state.registry;
 }
 
 -- it at the start
 abbrev pub fresh_unbounded : List (List ℕ) → Unbounded
-fresh_unbounded counts = record { registry = record { processes = empty; checkpoints = []; breakpoints = empty; drawn = 0 }; counts = counts }
+fresh_unbounded told = record { registry = record { processes = empty; checkpoints = []; breakpoints = empty; drawn = 0 }; told = told }

@@ -20,13 +20,14 @@ use Rattle.report_text.specs.declared.answer.Stop.TheVariants as stop
 use Rattle.report_text.specs.Answers.{answer_text, stop_text, turn_text}
 use Rattle.report_text.specs.FullLines.{AreWholeLines, answer_lines, answer_shows, behind_lines, ends_checkpoint, ends_disasm, ends_dump, ends_list, ends_process, ends_register, ends_regs, ends_stats, has_full_line, lines_both, no_lines, stop_lines, turn_lines, turn_shows}
 use Rattle.script_text.specs.declared.command.Command.{Command}
+use Rattle.command_core.specs.declared.modes.Modes.{Modes}
 use Rattle.command_core.specs.declared.TheConstants.{WORD_BYTES}
 use Rattle.command_core.specs.State.{Registry, State, registry_of}
 use Rattle.command_core.specs.Rows.{Changed, MemoryTaken, Row, TakesFirst, TakesLast, TakesNone, accepts, change_by, event_needs, falls_short, first_refusal, row_is_full as is_row_full, may_want_memory, refuses, wants_by}
 use Rattle.command_core.specs.Changes.{change_row, load_row}
 use Rattle.command_core.specs.Turns.{Progress, Ran, begun_alone, by_turns, event_then, first_event, last_break, next_of, ran, ran_by, ran_from, ran_text, rest_of, run_after, stopped, turns_by, unless_broken}
 use Rattle.command_core.specs.Commands.{Performed, change_told, checkpoint_text, checkpoints_text, disasm_text, dump_from, dump_text, exec_done, exec_turns, list_head, list_text, performed, performed_by, text_printed, prints_of, prints_read, process_text, processes_text, registers_from, regs_head, regs_of, regs_text, row_told, rules, stats_text, steps, takes_turns, told}
-use Rattle.command_core.specs.CommandCases.{GoesBy, ByExec, ByRun, ByStep, ByList, ByStats, ByRegs, ByDump, ByDisasm, ByChange, goes_by, prints_counts}
+use Rattle.command_core.specs.CommandCases.{GoesBy, ByExec, ByRun, ByStep, ByList, ByStats, ByRegs, ByDump, ByDisasm, ByChange, goes_by, ledger_done}
 use Rattle.command_core.specs.Unbounded.{Unbounded, change_unbounded, does_row, after_step_of, step_among, takes_unbounded, unbounded, unbounded_turns, wants_unbounded}
 
 -- As long as no line says `full`, the copying machine says and does what the unbounded one does.
@@ -177,7 +178,7 @@ module _ (breaks : Breaks) (behind : List ℕ) where
 
 -- the unbounded machine that a state stands for, which has these lines of counts to print
 abbrev pub unbounded_of : List (List ℕ) → State → Unbounded
-unbounded_of counts state = record { registry = registry_of state; counts = counts }
+unbounded_of counts state = record { registry = registry_of state; told = counts }
 
 pub record PerformedSame (counts : List (List ℕ)) (x : Performed State) (y : Performed Unbounded) : Type 0 where
   pub text : x.text ≡ y.text
@@ -246,14 +247,14 @@ module _ (counts : List (List ℕ)) (behind : List ℕ) where
             breakpoints = state.breakpoints;
             drawn = state.drawn;
           };
-          counts = counts;
+          told = counts;
         };
         wants = refl;
       }
 
   -- what is printed
-  same_printed : (text : List ℕ) (state : State) → PerformedSame counts (text_printed text state) (text_printed text (unbounded_of counts state))
-  same_printed text state = record { text = refl; after = refl; wants = refl }
+  same_printed : (wants : Bool) (text : List ℕ) (state : State) → PerformedSame counts (text_printed wants text state) (text_printed wants text (unbounded_of counts state))
+  same_printed wants text state = record { text = refl; after = refl; wants = refl }
 
   same_refused : (code : Code) (state : State) → PerformedSame counts (told false (refuses code state)) (told false (refuses code (unbounded_of counts state)))
   same_refused code state = record { text = refl; after = refl; wants = refl }
@@ -261,12 +262,12 @@ module _ (counts : List (List ℕ)) (behind : List ℕ) where
   same_exec_turns : (turns : ℕ) (answer : Answer) (state : State) → ShowsNoFull (exec_turns rules turns answer state) behind
       → PerformedSame counts (exec_turns rules turns answer state) (exec_turns unbounded turns answer (unbounded_of counts state))
   same_exec_turns turns (Loaded p pages entry) state none = same_takes (begun_alone p turns) state none
-  same_exec_turns turns Done state none = same_printed [] state
-  same_exec_turns turns (Forked p q) state none = same_printed [] state
-  same_exec_turns turns (Saved p name space) state none = same_printed [] state
-  same_exec_turns turns (Refused code) state none = same_printed [] state
-  same_exec_turns turns (Full units limit) state none = same_printed [] state
-  same_exec_turns turns Memory state none = same_printed [] state
+  same_exec_turns turns Done state none = same_printed false [] state
+  same_exec_turns turns (Forked p q) state none = same_printed false [] state
+  same_exec_turns turns (Saved p name space) state none = same_printed false [] state
+  same_exec_turns turns (Refused code) state none = same_printed false [] state
+  same_exec_turns turns (Full units limit) state none = same_printed false [] state
+  same_exec_turns turns Memory state none = same_printed false [] state
 
   same_running : (p turns : ℕ) (state : State) (runs : Bool) → ShowsNoFull (cond runs (takes_turns (begun_alone p turns) state) (told false (refuses Ended state))) behind
       → PerformedSame counts (cond runs (takes_turns (begun_alone p turns) state) (told false (refuses Ended state)))
@@ -281,11 +282,11 @@ module _ (counts : List (List ℕ)) (behind : List ℕ) where
 
   same_regs : (p : ℕ) (o : Option Process) (state : State) → PerformedSame counts (regs_of p o state) (regs_of p o (unbounded_of counts state))
   same_regs p None state = same_refused NoProcess state
-  same_regs p (Some process) state = same_printed (regs_text p process) state
+  same_regs p (Some process) state = same_printed false (regs_text p process) state
 
   same_read : (text : Contents → List ℕ) (memory : Contents) (o : Option ℕ) (state : State)
       → PerformedSame counts (prints_read text memory o state) (prints_read text memory o (unbounded_of counts state))
-  same_read text memory None state = same_printed (text memory) state
+  same_read text memory None state = same_printed false (text memory) state
   same_read text memory (Some at) state = same_refused (Unmapped at) state
 
   same_prints : (address n : ℕ) (text : Contents → List ℕ) (o : Option Process) (state : State)
@@ -323,30 +324,31 @@ module _ (counts : List (List ℕ)) (behind : List ℕ) (file : List ℕ) (turns
         wants = refl;
       }
 
--- the lines of counts that a command prints, before others
-abbrev pub with_stats : Command → State → List (List ℕ) → List (List ℕ)
-with_stats command state counts = cond (prints_counts command) (stats_text state ∷ counts) counts
+-- the line of a command that is told by the ledger, before others
+abbrev pub with_told : Command → State → List (List ℕ) → List (List ℕ)
+with_told command state counts = option_map_or (λ done. (done state).text ∷ counts) (ledger_done command) counts
 
 -- Where a command's text has no line of `full`, it comes to what it comes to in the unbounded machine.
-module _ (counts : List (List ℕ)) (behind : List ℕ) (quantum : ℕ) (file : List ℕ) (state : State) where
+module _ (counts : List (List ℕ)) (behind : List ℕ) (modes : Modes) (file : List ℕ) (state : State) where
   abbrev ComesSame : Command → Type 0
-  ComesSame c = ShowsNoFull (performed quantum file c state) behind
-      → PerformedSame counts (performed quantum file c state) (performed_by unbounded quantum file c (unbounded_of (with_stats c state counts) state))
+  ComesSame c = ShowsNoFull (performed modes file c state) behind
+      → PerformedSame counts (performed modes file c state) (performed_by unbounded modes file c (unbounded_of (with_told c state counts) state))
 
-  -- a change, of which it is known that it prints no counts
-  same_changed : (c : Command) → ((at : State) → performed quantum file c at ≡ change_told rules file c at)
-      → ((at : Unbounded) → performed_by unbounded quantum file c at ≡ change_told unbounded file c at) → prints_counts c ≡ false → ComesSame c
+  -- a change, of which it is known that it isn't told by the ledger
+  same_changed : (c : Command) → ((at : State) → performed modes file c at ≡ change_told rules file c at)
+      → ((at : Unbounded) → performed_by unbounded modes file c at ≡ change_told unbounded file c at) → ledger_done c ≡ None → ComesSame c
   same_changed c here there is none =
       let same = same_told counts behind (change_row file c (registry_of state)) state (subst (λ x. ShowsNoFull x behind) (here state) none) in
       let left = subst (λ x. PerformedSame counts x (change_told unbounded file c (unbounded_of counts state))) (sym (here state)) same in
-      subst (λ b. PerformedSame counts (performed quantum file c state) (performed_by unbounded quantum file c (unbounded_of (cond b (stats_text state ∷ counts) counts) state))) (sym is)
-      (subst (λ y. PerformedSame counts (performed quantum file c state) y) (sym (there (unbounded_of counts state))) left)
+      subst (λ (o : Option (State → Performed State)). PerformedSame counts (performed modes file c state)
+      (performed_by unbounded modes file c (unbounded_of (option_map_or (λ done. (done state).text ∷ counts) o counts) state))) (sym is)
+      (subst (λ y. PerformedSame counts (performed modes file c state) y) (sym (there (unbounded_of counts state))) left)
 
-  same_case : (c : Command) → GoesBy rules unbounded quantum file c → ComesSame c
+  same_case : (c : Command) → GoesBy rules unbounded modes file c → ComesSame c
   same_case _ (ByExec name turns) none = same_exec counts behind file turns state none
-  same_case _ (ByRun turns) none = same_takes counts behind (by_turns quantum turns) state none
+  same_case _ (ByRun turns) none = same_takes counts behind (by_turns modes.quantum turns) state none
   same_case _ (ByStep p turns) none = same_steps counts behind p turns (get state.wholes.processes p) state none
-  same_case _ ByList none = same_printed counts behind (list_text (registry_of state)) state
+  same_case _ ByList none = same_printed counts behind false (list_text (registry_of state)) state
   same_case _ ByStats none = record { text = refl; after = refl; wants = refl }
   same_case _ (ByRegs p) none = same_regs counts behind p (get state.wholes.processes p) state
   same_case _ (ByDump p address count) none =
@@ -355,10 +357,10 @@ module _ (counts : List (List ℕ)) (behind : List ℕ) (quantum : ℕ) (file : 
       same_prints counts behind address (WORD_BYTES * words) (λ memory. disasm_text memory address words) (get state.wholes.processes p) state
   same_case _ (ByChange c here there is) none = same_changed c here there is none
 
-pub same_performed : (counts : List (List ℕ)) (behind : List ℕ) (quantum : ℕ) (file : List ℕ) (c : Command) (state : State)
-    → ShowsNoFull (performed quantum file c state) behind
-    → PerformedSame counts (performed quantum file c state) (performed_by unbounded quantum file c (unbounded_of (with_stats c state counts) state))
-same_performed counts behind quantum file c state none = same_case counts behind quantum file state c (goes_by rules unbounded quantum file c) none
+pub same_performed : (counts : List (List ℕ)) (behind : List ℕ) (modes : Modes) (file : List ℕ) (c : Command) (state : State)
+    → ShowsNoFull (performed modes file c state) behind
+    → PerformedSame counts (performed modes file c state) (performed_by unbounded modes file c (unbounded_of (with_told c state counts) state))
+same_performed counts behind modes file c state none = same_case counts behind modes file state c (goes_by rules unbounded modes file c) none
 
 -- Each command's text is whole lines, or none.
 
@@ -429,14 +431,14 @@ stats_lines : (state : State) → AreWholeLines (stats_text state)
 unfolding stats_text
 stats_lines state = ends_stats _ _ _ _ _ true
 
-pub performed_lines : (quantum : ℕ) (file : List ℕ) (c : Command) (state : State) → AreWholeLines (performed quantum file c state).text
-performed_lines quantum file command state = by_case command (goes_by rules rules quantum file command)
+pub performed_lines : (modes : Modes) (file : List ℕ) (c : Command) (state : State) → AreWholeLines (performed modes file c state).text
+performed_lines modes file command state = by_case command (goes_by rules rules modes file command)
   where
-    by_case : (c : Command) → GoesBy rules rules quantum file c → AreWholeLines (performed quantum file c state).text
+    by_case : (c : Command) → GoesBy rules rules modes file c → AreWholeLines (performed modes file c state).text
     by_case _ (ByExec name turns) =
         let loaded = change_by (load_row file (registry_of state)) state in
         lines_both (answer_text loaded.answer) _ (answer_lines loaded.answer) (exec_turns_lines turns loaded.answer loaded.after)
-    by_case _ (ByRun turns) = ran_lines (ran_from state.breakpoints state.wholes (by_turns quantum turns))
+    by_case _ (ByRun turns) = ran_lines (ran_from state.breakpoints state.wholes (by_turns modes.quantum turns))
     by_case _ (ByStep p turns) = steps_lines p turns (get state.wholes.processes p) state
     by_case _ ByList = list_lines (registry_of state)
     by_case _ ByStats = stats_lines state

@@ -5,30 +5,33 @@ ghost use Rattle.std.specs.FinMap.{empty, get};
 ghost use Rattle.sizes.specs.declared.TheConstants.{LAST_SPACE};
 ghost use Rattle.space_maps.specs.Spaces.{space_in};
 ghost use Rattle.machine_core.specs.Machine.{has_space, spaces_of};
-ghost use Rattle.command_core.specs.Rows.{first_refusal};
-ghost use Rattle.command_core.specs.Copies.{Adopts, CopiesProcess, fork_refusals};
+ghost use Rattle.command_core.specs.Copies.{Adopts, CopiesProcess, GivesNumber, fork_refusals};
 
 use fork_checkpoint::fork_space;
 use machine_core::{Machine, Process, SpaceError};
 use ovl_io::ProcessState;
 use report_text::Code;
-use sizes::LAST_SPACE;
 
-/// Why a process that is there isn't forked, before its units are counted.
-pub(crate) fn fork_refusal(state: ProcessState, speculating: bool, drawn: u16) -> Option<Code>
-    ensures { result ≡ first_refusal (fork_refusals state speculating drawn) }
+/// The number of a fork of a process that is there, which is the next one; or why it isn't made, before its units are counted.
+pub(crate) fn fork_number(
+    state: ProcessState,
+    speculating: bool,
+    next: Option<u16>,
+) -> Result<u16, Code>
+    ensures { GivesNumber (fork_refusals state speculating next) next result }
 {
     match state {
         ProcessState::Running => {
             if speculating {
-                Some(Code::Speculating)
-            } else if drawn == LAST_SPACE {
-                Some(Code::NumbersUsed)
+                Err(Code::Speculating)
             } else {
-                None
+                match next {
+                    Some(q) => Ok(q),
+                    None => Err(Code::NumbersUsed),
+                }
             }
         }
-        ProcessState::Exited(_) | ProcessState::Faulted(_, _) => Some(Code::Ended),
+        ProcessState::Exited(_) | ProcessState::Faulted(_, _) => Err(Code::Ended),
     }
 }
 

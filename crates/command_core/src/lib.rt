@@ -3,11 +3,12 @@
 //! The model is the copying machine: the processes by number, each with its whole memory, the checkpoints by name, the breakpoints
 //! of each process, and how many numbers were drawn; for each command what it comes to, as one value.
 //!
+//! - `modes`: what is fixed for a whole run
 //! - `session`: loads, changes, and what is looked up
 //! - `forking`: a process under a second number
 //! - `saving`: checkpoints of processes, made and put back
 //! - `checkpoints`: what is kept of them, by name
-//! - `overlays`: what is done with the pages of a process: speculation and promotion
+//! - `process_changes`: changes of one process that is there: speculation, promotion, pages and registers
 //! - `mapping`: pages that are mapped, and that are given up
 //! - `poking`: bytes that are stored
 //! - `reading`: bytes that are looked at
@@ -18,14 +19,16 @@
 mod checkpoints;
 mod forking;
 mod mapping;
-mod overlays;
+mod modes;
 mod poking;
+mod process_changes;
 mod reading;
 mod saving;
 mod session;
 mod taking;
 mod turns;
 
+pub use modes::Modes;
 pub use session::{CheckpointView, Counts, ProcessView, Session};
 pub use turns::{Order, Running};
 

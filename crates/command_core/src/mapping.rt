@@ -8,10 +8,10 @@ ghost use Rattle.space_maps.specs.Spaces.{holds_space, space_in};
 ghost use Rattle.machine_core.specs.Machine.{has_space, spaces_of};
 ghost use Rattle.command_core.specs.Changes.{CanBeTold};
 ghost use Rattle.command_core.specs.Mapping.{FindsGap, FindsMapped, RefusesMap, RefusesUnmap};
-ghost use Rattle.command_core.specs.Overlays.{ChangesOverlays};
+ghost use Rattle.command_core.specs.ProcessChanges.{ChangesProcess};
 ghost use Rattle.command_core.specs.Refusals.{lie_outside};
 
-use crate::overlays::OverlayChange;
+use crate::process_changes::ProcessChange;
 use machine_core::{Machine, Process};
 use overlay_memory::OverlayMemory;
 use ovl_io::Perms;
@@ -113,7 +113,7 @@ pub(crate) fn map_pages(
     requires there { get machine.old.processes p ≡ Some process }
     requires space { has_space machine.old p ≡ true }
     requires none_awaits { (space_in (spaces_of machine.old) p).awaiting ≡ empty }
-    ensures done { ChangesOverlays p (OverlayChange.Map address n perms) process
+    ensures done { ChangesProcess p (ProcessChange.Map address n perms) process
         machine.old result machine.new }
     ensures told { CanBeTold result }
 {
@@ -141,7 +141,7 @@ pub(crate) fn unmap_pages(
     requires there { get machine.old.processes p ≡ Some process }
     requires space { has_space machine.old p ≡ true }
     requires none_awaits { (space_in (spaces_of machine.old) p).awaiting ≡ empty }
-    ensures done { ChangesOverlays p (OverlayChange.Unmap address n) process
+    ensures done { ChangesProcess p (ProcessChange.Unmap address n) process
         machine.old result machine.new }
     ensures told { CanBeTold result }
 {

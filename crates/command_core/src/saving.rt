@@ -7,8 +7,7 @@ ghost use Rattle.sizes.specs.declared.TheConstants.{LAST_SPACE};
 ghost use Rattle.space_maps.specs.Spaces.{space_in};
 ghost use Rattle.machine_core.specs.Machine.{has_space, spaces_of};
 ghost use Rattle.report_text.specs.Answers.{IsCheckpointName};
-ghost use Rattle.command_core.specs.Rows.{first_refusal};
-ghost use Rattle.command_core.specs.Copies.{CopiesProcess};
+ghost use Rattle.command_core.specs.Copies.{CopiesProcess, GivesNumber};
 ghost use Rattle.command_core.specs.Checkpoints.{Enters, SavesSpace, checkpoint_refusals};
 ghost use Rattle.command_core.specs.Kept.{EntersName, kept_named};
 
@@ -17,21 +16,25 @@ use fork_checkpoint::{fork_space, restore_space};
 use machine_core::{Machine, Process, SpaceError};
 use ovl_io::Bytes;
 use report_text::Code;
-use sizes::LAST_SPACE;
 use std::alloc::Global;
 
-/// Why a checkpoint of a process that is there isn't made, before its units are counted.
-pub(crate) fn checkpoint_refusal(speculating: bool, taken: bool, drawn: u16) -> Option<Code>
-    ensures { result ≡ first_refusal (checkpoint_refusals speculating taken drawn) }
+/// The number of a checkpoint of a process that is there, which is the next one; or why it isn't made, before its units are counted.
+pub(crate) fn checkpoint_number(
+    speculating: bool,
+    taken: bool,
+    next: Option<u16>,
+) -> Result<u16, Code>
+    ensures { GivesNumber (checkpoint_refusals speculating taken next) next result }
 {
     if speculating {
-        Some(Code::Speculating)
+        Err(Code::Speculating)
     } else if taken {
-        Some(Code::NameTaken)
-    } else if drawn == LAST_SPACE {
-        Some(Code::NumbersUsed)
+        Err(Code::NameTaken)
     } else {
-        None
+        match next {
+            Some(q) => Ok(q),
+            None => Err(Code::NumbersUsed),
+        }
     }
 }
 

@@ -2,12 +2,12 @@ ghost use Rattle.std.specs.Prelude.{◌≡◌, ◌==◌, ◌+◌, ◌≤◌, ◌
 ghost use Rattle.script_text.specs.Given.{IsGiven};
 ghost use Rattle.report_text.specs.Answers.{IsCheckpointName};
 ghost use Rattle.sizes.specs.declared.TheConstants.{ADDRESS_END, LAST_SPACE, MOST_FRAMES, PAGE_BYTES};
-ghost use Rattle.command_core.specs.State.{fresh, registry_of};
-ghost use Rattle.command_core.specs.Sessions.{KeepsRest};
+ghost use Rattle.command_core.specs.State.{fresh, number_after, registry_of};
+ghost use Rattle.command_core.specs.Sessions.{KeepsRest, fresh_session};
 ghost use Rattle.command_core.specs.Giving.{GivesChange, WantKeeps};
 ghost use Rattle.command_core.specs.Rows.{still_row};
 ghost use Rattle.command_core.specs.Copies.{fork_row};
-ghost use Rattle.command_core.specs.Overlays.{overlay_row};
+ghost use Rattle.command_core.specs.ProcessChanges.{process_row};
 ghost use Rattle.command_core.specs.Debugging.{break_row, poke_row, unbreak_row};
 ghost use Rattle.command_core.specs.Checkpoints.{checkpoint_row, forget_row, on_checkpoint, restore_row};
 ghost use Rattle.command_core.specs.Changes.{CanBeTold, answer_of, change_row, drop_row, load_row, on_process};
@@ -15,15 +15,16 @@ ghost use Rattle.command_core.specs.Commands.{RunsLoaded, asks};
 ghost use Rattle.command_core.specs.Looks.{BeginsStep, CanRead, LooksAt, LooksAtCheckpoint, NextProcess, ReadsBytes, counts_of, look_of, looked_at};
 ghost use Rattle.command_core.specs.Ample.{IsAmplyDone};
 ghost use Rattle.command_core.specs.Standing.{SessionAnswersAs, GivesAs, HoldsFor, SessionStandsFor, TurnsAs, begun_run, begun_step, ends_run, speaks, takes_turn};
-ghost use Rattle.std.specs.FinMap.{empty, get};
-ghost use Rattle.command_core.specs.Turns.{begun_by, lines_left, run_found};
+ghost use Rattle.std.specs.FinMap.{get};
+ghost use Rattle.command_core.specs.Turns.{IsTurnLine, begun_by, lines_left, run_found};
 
 use crate::checkpoints::{Checkpoints, Kept};
-use crate::forking::{fork_process, fork_refusal};
-use crate::overlays::{OverlayChange, change_overlays};
+use crate::forking::{fork_number, fork_process};
+use crate::process_changes::{ProcessChange, change_process};
+use crate::modes::Modes;
 use crate::poking::poke;
 use crate::reading::{can_read, read_bytes};
-use crate::saving::{checkpoint_refusal, restore_process, save_process};
+use crate::saving::{checkpoint_number, restore_process, save_process};
 use crate::taking::{ending, next_turn, turns_to_line};
 use crate::turns::{Order, Running};
 use breakpoints::Breakpoints;
@@ -73,7 +74,7 @@ pub struct Counts {
     pub misses: u64,
 }
 
-/// Processes by number, checkpoints by name, breakpoints, what commands do to them, and the quantum of turns.
+/// Processes by number, checkpoints by name, breakpoints, what commands do to them, and what is fixed for the whole run.
 #[derive(Drop)]
 pub struct Session {
     alloc: Global,
@@ -81,7 +82,7 @@ pub struct Session {
     checkpoints: Checkpoints,
     breakpoints: Breakpoints,
     drawn: u16,
-    quantum: u32,
+    modes: Modes,
 }
 
 impl Model for Session {
@@ -94,10 +95,10 @@ impl Model for Session {
 
     ghost coded = { session_code };
 
-    ghost view = { λ s. shown_session s.machine s.checkpoints s.breakpoints s.drawn s.quantum };
+    ghost view = { λ s. shown_session s.machine s.checkpoints s.breakpoints s.drawn s.modes };
 
     ghost invariant = { λ s. IsSession s.machine (spaces_kept s.checkpoints) s.drawn
-        × (1 ≤ s.quantum) × NoBreaksAbove s.drawn s.breakpoints };
+        × (1 ≤ s.modes.quantum) × NoBreaksAbove s.drawn s.breakpoints };
 }
 
 /// What a load or a copy that wasn't done answers.
@@ -107,6 +108,18 @@ fn not_made(error: SpaceError) -> Answer
     match error {
         SpaceError::Full(units, limit) => Answer::Full(units, limit),
         SpaceError::Memory => Answer::Memory,
+    }
+}
+
+/// The next number, of a process or of a checkpoint, where so many were drawn: none where that is all.
+fn next_number(drawn: u16) -> Option<u16>
+    ensures next { result ≡ number_after drawn }
+    ensures free { IfSome result (λ n. (drawn < n) × (n ≤ LAST_SPACE)) }
+{
+    if drawn < LAST_SPACE {
+        Some(drawn + 1)
+    } else {
+        None
     }
 }
 
@@ -129,9 +142,9 @@ impl Session {
         requires some { 0 < frames }
         requires few { frames ≤ MOST_FRAMES }
         requires quantum { 1 ≤ quantum }
-        ensures session { IfOk result (λ session. session
-            ≡ record { state = fresh frames; quantum = quantum; bases = empty }) }
-        ensures stands { IfOk result (λ session. SessionStandsFor session (fresh frames)) }
+        ensures session { IfOk result (λ session. session ≡ fresh_session (record { frames = frames; quantum = quantum })) }
+        ensures stands { IfOk result (λ session. SessionStandsFor session
+            (fresh (record { frames = frames; quantum = quantum }))) }
     {
         Ok(Session {
             alloc,
@@ -139,7 +152,7 @@ impl Session {
             checkpoints: Checkpoints::new(alloc),
             breakpoints: Breakpoints::new(alloc),
             drawn: 0,
-            quantum,
+            modes: Modes { frames, quantum },
         })
     }
 
@@ -154,17 +167,17 @@ impl Session {
         ensures want { WantKeeps self.old result self.new }
         ensures told { CanBeTold result }
         ensures runs { RunsLoaded result self.new.state }
-        ensures quantum { self.new.quantum ≡ self.old.quantum }
+        ensures modes { self.new.modes ≡ self.old.modes }
     {
         let image = match read_image(self.alloc, file) {
             Ok(image) => image,
             Err(ElfError::Memory) => return Answer::Memory,
             Err(error) => return Answer::Refused(Code::Elf(error)),
         };
-        if self.are_all_drawn() {
-            return Answer::Refused(Code::NumbersUsed);
-        }
-        let p = self.drawn + 1;
+        let p = match next_number(self.drawn) {
+            None => return Answer::Refused(Code::NumbersUsed),
+            Some(p) => p,
+        };
         match self.machine.load(p, &image, file) {
             Ok(pages) => {
                 self.drawn = p;
@@ -172,13 +185,6 @@ impl Session {
             }
             Err(error) => not_made(error),
         }
-    }
-
-    /// Whether all numbers were drawn.
-    fn are_all_drawn(&self) -> bool
-        ensures { result ≡ (self.now.state.drawn == LAST_SPACE) }
-    {
-        self.drawn == LAST_SPACE
     }
 
     /// Makes a process under the next number, with the registers and the memory of a process, whose frames it shares: `Forked`, or why
@@ -189,18 +195,17 @@ impl Session {
             result self.new.state }
         ensures want { WantKeeps self.old result self.new }
         ensures told { CanBeTold result }
-        ensures quantum { self.new.quantum ≡ self.old.quantum }
+        ensures modes { self.new.modes ≡ self.old.modes }
     {
         let process = match self.machine.process(p) {
             None => return Answer::Refused(Code::NoProcess),
             Some(process) => *process,
         };
         let speculating = self.machine.memory().is_speculating(p);
-        match fork_refusal(process.state, speculating, self.drawn) {
-            Some(code) => return Answer::Refused(code),
-            None => {}
-        }
-        let q = self.drawn + 1;
+        let q = match fork_number(process.state, speculating, next_number(self.drawn)) {
+            Ok(q) => q,
+            Err(code) => return Answer::Refused(code),
+        };
         match fork_process(&mut self.machine, p, q, process) {
             Ok(()) => {
                 self.drawn = q;
@@ -218,7 +223,7 @@ impl Session {
             self.old.state result self.new.state }
         ensures want { WantKeeps self.old result self.new }
         ensures told { CanBeTold result }
-        ensures quantum { self.new.quantum ≡ self.old.quantum }
+        ensures modes { self.new.modes ≡ self.old.modes }
     {
         let process = match self.machine.process(p) {
             None => return Answer::Refused(Code::NoProcess),
@@ -226,11 +231,10 @@ impl Session {
         };
         let speculating = self.machine.memory().is_speculating(p);
         let taken = self.checkpoints.has(name.as_slice());
-        match checkpoint_refusal(speculating, taken, self.drawn) {
-            Some(refusal) => return Answer::Refused(refusal),
-            None => {}
-        }
-        let q = self.drawn + 1;
+        let q = match checkpoint_number(speculating, taken, next_number(self.drawn)) {
+            Ok(q) => q,
+            Err(code) => return Answer::Refused(code),
+        };
         match save_process(
             self.alloc,
             &mut self.machine,
@@ -255,7 +259,7 @@ impl Session {
             self.old.state result self.new.state }
         ensures want { WantKeeps self.old result self.new }
         ensures told { CanBeTold result }
-        ensures quantum { self.new.quantum ≡ self.old.quantum }
+        ensures modes { self.new.modes ≡ self.old.modes }
     {
         match self.machine.process(p) {
             None => return Answer::Refused(Code::NoProcess),
@@ -282,7 +286,7 @@ impl Session {
             self.old.state result self.new.state }
         ensures want { WantKeeps self.old result self.new }
         ensures told { CanBeTold result }
-        ensures quantum { self.new.quantum ≡ self.old.quantum }
+        ensures modes { self.new.modes ≡ self.old.modes }
     {
         match self.checkpoints.remove(name.as_slice()) {
             None => Answer::Refused(Code::NoCheckpoint),
@@ -295,29 +299,30 @@ impl Session {
 
     /// Does a change to a process: a speculation begins or ends, pages are promoted, mapped or given up, or a register is set. Answers what came of it, or why
     /// it wasn't done. `Full` exactly where it isn't refused and the units after it would exceed the limit.
-    fn change_overlays(&mut self, p: u16, change: OverlayChange) -> Answer
-        ensures gives { GivesChange (on_process p (overlay_row p change) (registry_of self.old.state))
+    fn change_process(&mut self, p: u16, change: ProcessChange) -> Answer
+        ensures gives { GivesChange (on_process p (process_row p change) (registry_of self.old.state))
             self.old.state result self.new.state }
         ensures want { WantKeeps self.old result self.new }
         ensures told { CanBeTold result }
-        ensures quantum { self.new.quantum ≡ self.old.quantum }
+        ensures modes { self.new.modes ≡ self.old.modes }
     {
         match self.machine.process(p) {
             None => Answer::Refused(Code::NoProcess),
             Some(process) => {
                 let process = *process;
-                change_overlays(&mut self.machine, p, process, change)
+                change_process(&mut self.machine, p, process, change)
             }
         }
     }
 
-    /// Moves segments until free units lie together, which nothing shows.
+    /// Moves segments until free units lie together, which nothing shows: a session has no word for blocks, and that nothing is left to
+    /// move is a clause of the call below (`settled`).
     fn compact(&mut self) -> Answer
         ensures gives { GivesChange (still_row (registry_of self.old.state)) self.old.state
             result self.new.state }
         ensures want { WantKeeps self.old result self.new }
         ensures told { CanBeTold result }
-        ensures quantum { self.new.quantum ≡ self.old.quantum }
+        ensures modes { self.new.modes ≡ self.old.modes }
     {
         self.machine.memory_mut().compact();
         Answer::Done
@@ -331,7 +336,7 @@ impl Session {
             self.old.state result self.new.state }
         ensures want { WantKeeps self.old result self.new }
         ensures told { CanBeTold result }
-        ensures quantum { self.new.quantum ≡ self.old.quantum }
+        ensures modes { self.new.modes ≡ self.old.modes }
     {
         match self.machine.process(p) {
             None => Answer::Refused(Code::NoProcess),
@@ -348,7 +353,7 @@ impl Session {
             self.old.state result self.new.state }
         ensures want { WantKeeps self.old result self.new }
         ensures told { CanBeTold result }
-        ensures quantum { self.new.quantum ≡ self.old.quantum }
+        ensures modes { self.new.modes ≡ self.old.modes }
     {
         match self.machine.process(p) {
             None => return Answer::Refused(Code::NoProcess),
@@ -367,7 +372,7 @@ impl Session {
             self.old.state result self.new.state }
         ensures want { WantKeeps self.old result self.new }
         ensures told { CanBeTold result }
-        ensures quantum { self.new.quantum ≡ self.old.quantum }
+        ensures modes { self.new.modes ≡ self.old.modes }
     {
         match self.machine.process(p) {
             None => return Answer::Refused(Code::NoProcess),
@@ -383,7 +388,7 @@ impl Session {
             result self.new.state }
         ensures want { WantKeeps self.old result self.new }
         ensures told { CanBeTold result }
-        ensures quantum { self.new.quantum ≡ self.old.quantum }
+        ensures modes { self.new.modes ≡ self.old.modes }
     {
         match self.machine.process(p) {
             None => return Answer::Refused(Code::NoProcess),
@@ -396,6 +401,7 @@ impl Session {
     }
 
     /// Does a command that asks for no file, by its row.
+    #[tactic(auto, using(crate::proofs::Rows::gives_still))]
     fn do_row(&mut self, command: &Command) -> Answer
         requires asks { asks command.now ≡ None }
         requires given { IsGiven command.now }
@@ -403,35 +409,43 @@ impl Session {
             result self.new.state }
         ensures want { WantKeeps self.old result self.new }
         ensures told { CanBeTold result }
-        ensures quantum { self.new.quantum ≡ self.old.quantum }
+        ensures modes { self.new.modes ≡ self.old.modes }
     {
         match command {
             Command::Fork(p) => self.fork(*p),
             Command::Checkpoint(p, name) => self.checkpoint(*p, name),
             Command::Restore(p, name) => self.restore(*p, name),
             Command::Forget(name) => self.forget(name),
-            Command::Speculate(p) => self.change_overlays(*p, OverlayChange::Speculate),
-            Command::Commit(p) => self.change_overlays(*p, OverlayChange::Commit),
-            Command::Discard(p) => self.change_overlays(*p, OverlayChange::Discard),
+            Command::Speculate(p) => self.change_process(*p, ProcessChange::Speculate),
+            Command::Commit(p) => self.change_process(*p, ProcessChange::Commit),
+            Command::Discard(p) => self.change_process(*p, ProcessChange::Discard),
             Command::Promote(p, address) => {
-                self.change_overlays(*p, OverlayChange::Promote(*address))
+                self.change_process(*p, ProcessChange::Promote(*address))
             }
-            Command::PromoteAll(p) => self.change_overlays(*p, OverlayChange::PromoteAll),
+            Command::PromoteAll(p) => self.change_process(*p, ProcessChange::PromoteAll),
             Command::Compact => self.compact(),
             Command::Map(p, address, n, perms) => {
-                self.change_overlays(*p, OverlayChange::Map(*address, *n, *perms))
+                self.change_process(*p, ProcessChange::Map(*address, *n, *perms))
             }
             Command::Unmap(p, address, n) => {
-                self.change_overlays(*p, OverlayChange::Unmap(*address, *n))
+                self.change_process(*p, ProcessChange::Unmap(*address, *n))
             }
             Command::Drop(p) => self.drop_process(*p),
             Command::Poke(p, address, bytes) => self.poke(*p, *address, bytes),
             Command::Set(p, register, value) => {
-                self.change_overlays(*p, OverlayChange::Set(*register, *value))
+                self.change_process(*p, ProcessChange::Set(*register, *value))
             }
             Command::Break(p, address) => self.add_breakpoint(*p, *address),
             Command::Unbreak(p, address) => self.remove_breakpoint(*p, *address),
-            _ => Answer::Done,
+            Command::Exec(_, _)
+            | Command::Load(_)
+            | Command::Run(_)
+            | Command::Step(_, _)
+            | Command::Regs(_)
+            | Command::Dump(_, _, _)
+            | Command::Disasm(_, _, _)
+            | Command::List
+            | Command::Stats => Answer::Done,
         }
     }
 
@@ -448,17 +462,17 @@ impl Session {
         ensures ample { IsAmplyDone (change_row [] command.now) self.old result }
         ensures want { WantKeeps self.old result self.new }
         ensures told { CanBeTold result }
-        ensures quantum { self.new.quantum ≡ self.old.quantum }
+        ensures modes { self.new.modes ≡ self.old.modes }
     {
         self.do_row(command)
     }
 
     /// Begins so many turns, at least 1, by round robin.
     pub fn begin_run(&self, turns: u32) -> Running
-        ensures begun { result ≡ begun_run self.now.quantum turns self.now.state }
-        ensures stands { SessionAnswersAs (begun_run self.now.quantum turns) self.now result }
+        ensures begun { result ≡ begun_run self.now.modes.quantum turns self.now.state }
+        ensures stands { SessionAnswersAs (begun_run self.now.modes.quantum turns) self.now result }
     {
-        self.begin(Order::ByTurns(RoundRobin::new(self.quantum)), turns)
+        self.begin(Order::ByTurns(RoundRobin::new(self.modes.quantum)), turns)
     }
 
     /// Begins so many turns, at least 1, of one process. Refused where there is none, or where it has ended.
@@ -490,16 +504,19 @@ impl Session {
     pub fn turn(&mut self, running: &mut Running) -> Option<(u16, Turn)>
         ensures turn { takes_turn running.old result running.new self.old.state self.new.state }
         ensures stands { TurnsAs (takes_turn running.old result running.new) self.old self.new }
+        ensures still { result ≡ None → self.new ≡ self.old }
         ensures others { KeepsRest self.old self.new }
     {
         next_turn(&mut self.machine, &self.breakpoints, running)
     }
 
-    /// Takes turns until one has a line, which it sets, and answers true; or until the run has ended. It is `turn` again
+    /// Takes turns until one has a line, which it sets, and answers true; or until the run has ended. The line is that turn's, and the
+    /// only one. It is `turn` again
     /// and again, without a `Turn` where nothing is to be said.
     pub fn turn_line(&mut self, running: &mut Running, line: &mut Line) -> bool
         ensures says { result ≡ true →
             speaks running.old line.new.items running.new self.old.state self.new.state }
+        ensures one { result ≡ true → IsTurnLine line.new.items }
         ensures ends { result ≡ false →
             ends_run running.old running.new self.old.state self.new.state }
         ensures stands { result ≡ true →

@@ -1,50 +1,22 @@
 //! Turns of a machine: one at a time, and up to the next that has a line.
 
 ghost use Rattle.std.specs.Prelude.{◌≡◌, ◌+◌, ◌≤◌, ◌<◌, [], Some, None, true, false, IfSome};
-ghost use Rattle.report_text.specs.Answers.{turn_text};
-ghost use Rattle.machine_core.specs.Machine.{KeepsPlaces, StaysBut, has_space, is_running, wholes};
+ghost use Rattle.std.specs.FinMap.{empty};
+ghost use Rattle.space_maps.specs.Spaces.{space_in};
+ghost use Rattle.report_text.specs.Answers.{HasPort};
+ghost use Rattle.machine_core.specs.Machine.{AreLike, KeepsPlaces, StaysBut, has_space, is_running, spaces_of, wholes};
 ghost use Rattle.machine_core.specs.Executions.{after_executions, came_to_last, steps_to};
-ghost use Rattle.machine_core.specs.Turns.{after_asked, turn_asked};
-ghost use Rattle.command_core.specs.Sessions.{KeepsFree, OwnSpaces};
+ghost use Rattle.machine_core.specs.Turns.{after_asked, after_turn, turn_asked, turn_of};
+ghost use Rattle.command_core.specs.Sessions.{KeepsFree, NoneAwaits, OwnSpaces};
 ghost use Rattle.breakpoints.specs.Breakpoints.{addresses_of};
-ghost use Rattle.command_core.specs.Turns.{EndsRun, GoesOn, Speaks, TakesTurn, break_among, break_of, ending, ending_by, last_break, lines_left, next_of, rest_of, run_altered};
+ghost use Rattle.command_core.specs.Turns.{EndsRun, FinishesTurn, IsTurnLine, Speaks, TakesTurn, break_among, break_of, ending, ending_by, found_before, last_break, lines_left, next_of, rest_of};
 
 use crate::turns::{Order, Running};
 use breakpoints::{Addresses, Breakpoints};
 use machine_core::{Machine, Process};
-use ovl_io::{FaultKind, ProcessState, Turn};
+use ovl_io::{ProcessState, Turn};
 use report_text::{Line, Stop, turn_line};
 use rv_execute::Outcome;
-
-/// Does what a process asked for. Where that has a line, sets it and answers true.
-#[inline(never)]
-fn answer_request(machine: &mut Machine, p: u16, line: &mut Line) -> bool
-    requires runs { is_running (wholes machine.old) p ≡ true }
-    requires there { has_space machine.old p ≡ true }
-    ensures says { result ≡ true → line.new.items ≡ turn_text p (turn_asked (wholes machine.old) p) }
-    ensures quiet { result ≡ false → turn_text p (turn_asked (wholes machine.old) p) ≡ [] }
-    ensures after { wholes machine.new ≡ after_asked (wholes machine.old) p }
-    ensures kept { KeepsPlaces machine.old machine.new }
-    ensures free { KeepsFree machine.old machine.new }
-{
-    turn_line(p, &machine.answer(p), line)
-}
-
-/// Sets the line of a fault.
-#[inline(never)]
-fn fault_line(p: u16, kind: FaultKind, address: u64, line: &mut Line)
-    ensures { line.new.items ≡ turn_text p (Turn.Faulted kind address) }
-{
-    turn_line(p, &Turn::Faulted(kind, address), line);
-}
-
-/// Sets the line of a turn for which there aren't units enough.
-#[inline(never)]
-fn full_line(p: u16, units: u32, limit: u32, line: &mut Line)
-    ensures { line.new.items ≡ turn_text p (Turn.Full units limit) }
-{
-    turn_line(p, &Turn::Full(units, limit), line);
-}
 
 /// Executes up to so many instructions of a running process, whose space is there, as long as each is a step and leads to none
 /// of its breakpoints. Answers how many were steps, and what came of the last one.
@@ -57,21 +29,55 @@ fn execute_up_to(
 ) -> (u32, Outcome)
     requires runs { is_running (wholes machine.old) p ≡ true }
     requires there { has_space machine.old p ≡ true }
+    requires none_awaits { (space_in (spaces_of machine.old) p).awaiting ≡ empty }
     ensures steps { result.0
         ≡ steps_to (addresses_of breakpoints.now p) most (wholes machine.old) p }
     ensures outcome { result.1
         ≡ came_to_last (addresses_of breakpoints.now p) most (wholes machine.old) p }
-    ensures after { wholes machine.new
-        ≡ after_executions (addresses_of breakpoints.now p) most (wholes machine.old) p }
+    ensures after { AreLike (wholes machine.new)
+        (after_executions (addresses_of breakpoints.now p) most (wholes machine.old) p) }
     ensures others { StaysBut p machine.old machine.new }
     ensures places { KeepsPlaces machine.old machine.new }
 {
     machine.execute_up_to(p, most, breakpoints.of(p))
 }
 
+/// Does what a process asked for, and answers what came of it.
+#[inline]
+fn answer_request(machine: &mut Machine, p: u16) -> Turn
+    requires runs { is_running (wholes machine.old) p ≡ true }
+    requires there { has_space machine.old p ≡ true }
+    requires none_awaits { (space_in (spaces_of machine.old) p).awaiting ≡ empty }
+    ensures turn { result ≡ turn_asked (wholes machine.old) p }
+    ensures after { AreLike (wholes machine.new) (after_asked (wholes machine.old) p) }
+    ensures kept { KeepsPlaces machine.old machine.new }
+    ensures free { KeepsFree machine.old machine.new }
+{
+    machine.answer(p)
+}
+
+/// The rest of a turn of a process whose execution came to this: what it asked for, where it did. Answers what came of the turn.
+#[inline(never)]
+fn finish_turn(machine: &mut Machine, p: u16, outcome: Outcome) -> Turn
+    requires runs { outcome ≡ Outcome.Asked → is_running (wholes machine.old) p ≡ true }
+    requires there { has_space machine.old p ≡ true }
+    requires none_awaits { (space_in (spaces_of machine.old) p).awaiting ≡ empty }
+    ensures turn { FinishesTurn p outcome (wholes machine.old) result (wholes machine.new) }
+    ensures port { HasPort result }
+    ensures kept { KeepsPlaces machine.old machine.new }
+    ensures free { KeepsFree machine.old machine.new }
+{
+    match outcome {
+        Outcome::Stepped => Turn::Stepped,
+        Outcome::Asked => answer_request(machine, p),
+        Outcome::Fault(kind, address) => Turn::Faulted(kind, address),
+        Outcome::Full(units, limit) => Turn::Full(units, limit),
+    }
+}
+
 /// Takes turns of a running process, whose turn is next: until one has a line, which it sets, and answers true; or until one
-/// reaches a breakpoint; or as many as there are until another's turn may be next. One for which there aren't units enough isn't counted, and ends the
-/// run.
+/// reaches a breakpoint; or as many as there are until another's turn may be next. What the last one asked for is done before it is
+/// counted; one for which there aren't units enough isn't counted, and ends the run.
 #[inline]
 fn take_turns(
     machine: &mut Machine,
@@ -82,14 +88,16 @@ fn take_turns(
 ) -> bool
     requires runs { is_running (wholes machine.old) p ≡ true }
     requires there { has_space machine.old p ≡ true }
+    requires none_awaits { (space_in (spaces_of machine.old) p).awaiting ≡ empty }
     requires next { next_of (wholes machine.old) running.old.run.order ≡ Some p }
     requires left { running.old.run.taken < running.old.run.turns }
     requires unbroken { last_break breakpoints.now (wholes machine.old) running.old.run ≡ None }
     requires goes { running.old.stop ≡ None }
     ensures says { result ≡ true → Speaks breakpoints.now
         (wholes machine.old) running.old line.new.items (wholes machine.new) running.new }
-    ensures quiet { result ≡ false → GoesOn breakpoints.now
-        (wholes machine.old) running.old.run (wholes machine.new) running.new.run }
+    ensures one { result ≡ true → IsTurnLine line.new.items }
+    ensures quiet { result ≡ false → Speaks breakpoints.now
+        (wholes machine.old) running.old [] (wholes machine.new) running.new }
     ensures goes { result ≡ false → running.new.stop ≡ None }
     ensures fewer { lines_left running.new < lines_left running.old }
     ensures asked { running.new.run.turns ≡ running.old.run.turns }
@@ -98,27 +106,13 @@ fn take_turns(
     ensures free { KeepsFree machine.old machine.new }
 {
     let (steps, outcome) = execute_up_to(machine, breakpoints, p, running.stretch(p));
-    match outcome {
-        Outcome::Stepped => {
-            running.took_turns(p, steps);
-            false
-        }
-        Outcome::Asked => {
-            running.took_turns(p, steps + 1);
-            answer_request(machine, p, line)
-        }
-        Outcome::Fault(kind, address) => {
-            running.took_turns(p, steps + 1);
-            fault_line(p, kind, address, line);
-            true
-        }
-        Outcome::Full(units, limit) => {
-            running.took_turns(p, steps);
-            running.set_stop(Some(Stop::Full));
-            full_line(p, units, limit, line);
-            true
-        }
+    running.took_turns(p, steps);
+    if let Outcome::Stepped = outcome {
+        return false;
     }
+    let turn = finish_turn(machine, p, outcome);
+    running.count(p, &turn);
+    turn_line(p, &turn, line)
 }
 
 /// The process whose turn is next.
@@ -220,22 +214,29 @@ pub(crate) fn ending(
     }
 }
 
-/// Counts a turn of a process, and finds the ending that holds then. One for which there weren't units enough isn't counted, and
-/// ends the run.
-fn end_turn(
-    machine: &Machine,
-    breakpoints: &Breakpoints,
-    running: &mut Running,
-    p: u16,
-    turn: &Turn,
-)
-    requires { running.old.run.taken < running.old.run.turns }
-    ensures { running.new ≡ run_altered breakpoints.now turn.now p (wholes machine.now) running.old.run }
+/// One instruction of a running process, and what came of it.
+fn event(machine: &mut Machine, p: u16) -> Turn
+    requires runs { is_running (wholes machine.old) p ≡ true }
+    requires there { has_space machine.old p ≡ true }
+    requires none_awaits { (space_in (spaces_of machine.old) p).awaiting ≡ empty }
+    ensures turn { result ≡ turn_of (wholes machine.old) p }
+    ensures after { AreLike (wholes machine.new) (after_turn (wholes machine.old) p) }
+    ensures kept { KeepsPlaces machine.old machine.new }
+    ensures free { KeepsFree machine.old machine.new }
 {
-    match turn {
-        Turn::Full(_, _) => running.set_stop(Some(Stop::Full)),
-        Turn::Stepped | Turn::Wrote(_) | Turn::Exited(_) | Turn::Faulted(_, _) => {
-            running.took(p);
+    machine.event(p)
+}
+
+/// Finds the ending that holds, where none was found before.
+fn find_ending(machine: &Machine, breakpoints: &Breakpoints, running: &mut Running)
+    ensures { running.new ≡ record {
+        run = running.old.run;
+        stop = found_before breakpoints.now (wholes machine.now) running.old;
+    } }
+{
+    match running.stop() {
+        Some(_) => {}
+        None => {
             let stop = ending(machine, breakpoints, running);
             running.set_stop(stop);
         }
@@ -248,9 +249,11 @@ pub(crate) fn next_turn(
     breakpoints: &Breakpoints,
     running: &mut Running,
 ) -> Option<(u16, Turn)>
-    requires { OwnSpaces machine.old }
+    requires spaces { OwnSpaces machine.old }
+    requires awaits { NoneAwaits machine.old }
     ensures turn { TakesTurn breakpoints.now
         (wholes machine.old) running.old result (wholes machine.new) running.new }
+    ensures still { result ≡ None → machine.new ≡ machine.old }
     ensures kept { KeepsPlaces machine.old machine.new }
     ensures free { KeepsFree machine.old machine.new }
 {
@@ -268,8 +271,9 @@ pub(crate) fn next_turn(
     match next(machine, running.order()) {
         None => None,
         Some(p) => {
-            let turn = machine.event(p);
-            end_turn(machine, breakpoints, running, p, &turn);
+            let turn = event(machine, p);
+            running.count(p, &turn);
+            find_ending(machine, breakpoints, running);
             Some((p, turn))
         }
     }
@@ -284,9 +288,11 @@ fn quiet_turns(
     line: &mut Line,
 ) -> bool
     requires spaces { OwnSpaces machine.old }
+    requires awaits { NoneAwaits machine.old }
     requires goes { running.old.stop ≡ None }
     ensures says { result ≡ true → Speaks breakpoints.now
         (wholes machine.old) running.old line.new.items (wholes machine.new) running.new }
+    ensures one { result ≡ true → IsTurnLine line.new.items }
     ensures ends { result ≡ false → EndsRun breakpoints.now
         (wholes machine.old) running.old (wholes machine.new) running.new }
     ensures fewer { result ≡ true → lines_left running.new < lines_left running.old }
@@ -322,9 +328,11 @@ pub(crate) fn turns_to_line(
     running: &mut Running,
     line: &mut Line,
 ) -> bool
-    requires { OwnSpaces machine.old }
+    requires spaces { OwnSpaces machine.old }
+    requires awaits { NoneAwaits machine.old }
     ensures says { result ≡ true → Speaks breakpoints.now
         (wholes machine.old) running.old line.new.items (wholes machine.new) running.new }
+    ensures one { result ≡ true → IsTurnLine line.new.items }
     ensures ends { result ≡ false → EndsRun breakpoints.now
         (wholes machine.old) running.old (wholes machine.new) running.new }
     ensures fewer { result ≡ true → lines_left running.new < lines_left running.old }

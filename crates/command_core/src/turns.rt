@@ -1,7 +1,8 @@
 ghost use Rattle.std.specs.Prelude.{◌≡◌, ◌<◌, ◌≤◌, None, nat_lt};
 ghost use Rattle.std.specs.Option.{is_some};
-ghost use Rattle.command_core.specs.Turns.{begun_by, run_after, run_took, stretch};
+ghost use Rattle.command_core.specs.Turns.{begun_by, run_after, run_counted, run_took, stretch};
 
+use ovl_io::Turn;
 use report_text::Stop;
 use round_robin::RoundRobin;
 use std::marker::Model;
@@ -124,6 +125,19 @@ impl Running {
             self.last = Some(p);
         }
         self.taken += n;
+    }
+
+    /// Counts a turn of `p`. One for which there weren't units enough isn't counted, and ends the run.
+    pub(crate) fn count(&mut self, p: u16, turn: &Turn)
+        requires left { self.old.run.taken < self.old.run.turns }
+        requires goes { self.old.stop ≡ None }
+        ensures counted { self.new ≡ run_counted turn.now p self.old.run }
+        ensures within { self.new.run.taken ≤ self.new.run.turns }
+    {
+        match turn {
+            Turn::Full(_, _) => self.stop = Some(Stop::Full),
+            Turn::Stepped | Turn::Wrote(_) | Turn::Exited(_) | Turn::Faulted(_, _) => self.took(p),
+        }
     }
 
     pub(crate) fn set_stop(&mut self, stop: Option<Stop>)

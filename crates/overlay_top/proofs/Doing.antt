@@ -13,13 +13,13 @@ use Rattle.overlay_top.specs.Running.{DoesCommand, TakesOn}
 
 pub turns_done : {K E : Type 0} (k : SinkOf K) (start now : K) (done : Performed State) (old new : InSession) (sent : Result (Unit {0}) E) (x : Unit {0}) → sent ≡ Ok x
     → TakesOn k start now done old new sent → DoesCommand k start now done old new (Ok tt)
-turns_done k start now done old new (Ok unit) x is takes = record { ends = (takes.sends.0, takes.sends.1, takes.after); quantum = takes.quantum }
+turns_done k start now done old new (Ok unit) x is takes = record { ends = (takes.sends.0, takes.sends.1, takes.after); modes = takes.modes }
 turns_done k start now done old new (Err e) x is takes = cc
 
 pub text_done : {K E : Type 0} (k : SinkOf K) (start now : K) (done : Performed State) (session : InSession) (sent : Result (Unit {0}) E) (x : Unit {0}) → sent ≡ Ok x
     → done.after ≡ session.state → SendsText k start done.text now sent → DoesCommand k start now done session session (Ok tt)
 text_done k start now done session (Ok unit) x is same sends =
-    record { ends = (sends.0, sends.1, states_same session.state done.after (sym same)); quantum = refl }
+    record { ends = (sends.0, sends.1, states_same session.state done.after (sym same)); modes = refl }
 text_done k start now done session (Err e) x is same sends = cc
 
 -- what is printed of a process leaves the state as it is

@@ -28,7 +28,7 @@ pub ended_text : (breaks : Breaks) (old : Wholes) (running : InRun) (new : Whole
     → ran_text (left_of breaks old running) ≡ sent
 ended_text breaks old running new after found stop taken line sent ends is_found is_stop is_taken is_line is_sent =
     let same : ends.0 ≡ stop = some_is ends.0 stop (sym ends.1 ∙ sym is_found ∙ is_stop) in
-    ends.2 ∙ ap (stop_text after.run.taken) same ∙ ap (λ n. stop_text n stop) (sym is_taken) ∙ sym (is_sent ∙ is_line)
+    ends.2.0 ∙ ap (stop_text after.run.taken) same ∙ ap (λ n. stop_text n stop) (sym is_taken) ∙ sym (is_sent ∙ is_line)
 
 pub ended_after : (start old new : State) (first running after : InRun)
     → AreLike (left_of start.breakpoints start.wholes first).after (left_of start.breakpoints old.wholes running).after
@@ -37,7 +37,7 @@ pub ended_after : (start old new : State) (first running after : InRun)
 ended_after start old new first running after so_far ends checkpoints breakpoints drawn =
     let begun = (left_of start.breakpoints start.wholes first).after in
     record {
-      wholes = like_back begun new.wholes (like_chain begun (left_of start.breakpoints old.wholes running).after new.wholes so_far ends.3);
+      wholes = like_back begun new.wholes (like_chain begun (left_of start.breakpoints old.wholes running).after new.wholes so_far ends.2.1);
       checkpoints = checkpoints;
       breakpoints = breakpoints;
       drawn = drawn;

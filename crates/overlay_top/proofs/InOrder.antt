@@ -3,13 +3,14 @@ use Rattle.ovl_io.specs.declared.source.Source.{Ghosts as SourceOf}
 use Rattle.ovl_io.specs.declared.shelf.Shelf.{Ghosts as ShelfOf}
 use Rattle.ovl_io.specs.declared.sink.Sink.{Ghosts as SinkOf}
 use Rattle.script_text.specs.declared.command.Command.{Command}
+use Rattle.command_core.specs.declared.modes.Modes.{Modes}
 use Rattle.command_core.specs.State.{State, fresh}
 use Rattle.command_core.specs.Commands.{FileAsked, AsksNothing, HasFile, IsMissing, IsTooLong, file_asked, has_all}
 use Rattle.overlay_top.specs.declared.words.Settings.{Settings}
 use Rattle.overlay_top.specs.declared.status.Status.{Status}
 use Rattle.overlay_top.specs.declared.status.Status.TheVariants.{Done}
 use Rattle.overlay_top.specs.Status.{code_of}
-use Rattle.overlay_top.specs.Outcome.{Asking, OfNothing, OfOutside, Passage, RunOutcome, SaysCommands, SaysOutside, SaysTooMuch, ScriptSays, chosen_files, chosen_script, outcome_set, run_from, said, said_outcome, with_asked}
+use Rattle.overlay_top.specs.Outcome.{modes_of, Asking, OfNothing, OfOutside, Passage, RunOutcome, SaysCommands, SaysOutside, SaysTooMuch, ScriptSays, chosen_files, chosen_script, outcome_set, run_from, said, said_outcome, with_asked}
 use Rattle.overlay_top.specs.InOrder.{have_files, says_in_order, set_in_order}
 use Rattle.overlay_top.specs.Ends.{Ends, EndsAs, EndsMade, EndsWith, MadeOutOfMemory, MadeSinkFailed, MadeWhole, OutOfMemory, ShelfFailed, SinkFailed, SourceFailed, Untouched, Whole, World}
 use Rattle.overlay_top.proofs.Codes.{same_status}
@@ -31,24 +32,24 @@ done_asked (HasFile file) passage rest others follow is = follow is
 done_asked IsMissing passage rest others follow is = cc
 done_asked IsTooLong passage rest others follow is = cc
 
-module _ (quantum : ℕ) (files : List ℕ → Option (List ℕ)) where
-  runs_done : (commands : List Command) (state : State) → have_files files commands ≡ true → (run_from quantum commands state files).status ≡ Done
+module _ (modes : Modes) (files : List ℕ → Option (List ℕ)) where
+  runs_done : (commands : List Command) (state : State) → have_files files commands ≡ true → (run_from modes commands state files).status ≡ Done
   runs_done [] state is = refl
   runs_done (command ∷ commands) state is = asked_done (file_asked files command) _ _ (have_files files commands) (runs_done commands _) is
 
-  done_runs : (commands : List Command) (state : State) → (run_from quantum commands state files).status ≡ Done → have_files files commands ≡ true
+  done_runs : (commands : List Command) (state : State) → (run_from modes commands state files).status ≡ Done → have_files files commands ≡ true
   done_runs [] state is = refl
   done_runs (command ∷ commands) state is = done_asked (file_asked files command) _ _ (have_files files commands) (done_runs commands _) is
 
 says_done : (set : Settings) (files : List ℕ → Option (List ℕ)) (says : ScriptSays) → says_in_order files says ≡ true → (said_outcome set says files).status ≡ Done
 says_done set files SaysTooMuch is = cc
 says_done set files (SaysOutside line) is = cc
-says_done set files (SaysCommands commands) is = runs_done set.quantum files commands (fresh set.frames) is
+says_done set files (SaysCommands commands) is = runs_done (modes_of set) files commands (fresh (modes_of set)) is
 
 done_says : (set : Settings) (files : List ℕ → Option (List ℕ)) (says : ScriptSays) → (said_outcome set says files).status ≡ Done → says_in_order files says ≡ true
 done_says set files SaysTooMuch is = cc
 done_says set files (SaysOutside line) is = cc
-done_says set files (SaysCommands commands) is = done_runs set.quantum files commands (fresh set.frames) is
+done_says set files (SaysCommands commands) is = done_runs (modes_of set) files commands (fresh (modes_of set)) is
 
 pub in_order_done : (found : Option Settings) (script : List ℕ) (files : List ℕ → Option (List ℕ)) → set_in_order found script files ≡ true
     → (outcome_set found script files).status ≡ Done

@@ -12,12 +12,13 @@ use Rattle.overlay_top.specs.declared.running.Halt.TheVariants.{Missing, FetchFa
 use Rattle.script_text.specs.declared.command.Command.{Command}
 use Rattle.overlay_top.specs.declared.status.Status.{Status}
 use Rattle.overlay_top.specs.declared.status.Status.TheVariants as ending
+use Rattle.command_core.specs.declared.modes.Modes.{Modes}
 use Rattle.command_core.specs.State.{AreLikeStates, State, fresh}
 use Rattle.command_core.specs.Commands.{FileAsked, AsksNothing, HasFile, IsMissing, IsTooLong, Performed, asked_by, asked_for, asks, file_asked, file_in, has_all, performed}
 use Rattle.command_core.specs.LikeLaws.{AreLikePerformed, like_performed, states_chain, states_same}
 use Rattle.overlay_top.specs.declared.words.Settings.{Settings}
 use Rattle.overlay_top.specs.Sending.{IsSent, IsCut}
-use Rattle.overlay_top.specs.Outcome.{Passage, RunOutcome, report_of, passage_after, passage_of, first_report, ended_by, not_fetched, done, texts_of, with_asked, run_from, run_all, named, command_done}
+use Rattle.overlay_top.specs.Outcome.{modes_of, Passage, RunOutcome, report_of, passage_after, passage_of, first_report, ended_by, not_fetched, done, texts_of, with_asked, run_from, run_all, named, command_done}
 use Rattle.overlay_top.specs.Running.{FailedAt, FailedFor, LacksMemory, Reported, WasGiven, RunEnds, Sends}
 use Rattle.overlay_top.specs.Outside.{RefusedFor}
 use Rattle.overlay_top.proofs.Asks.{asked_at, fetches_all}
@@ -36,7 +37,7 @@ behind passages outcome = record { passages = passages ++ outcome.passages; last
 pub record HasRun (set : Settings) (all : List Command) (index : ℕ) (files : List ℕ → Option (List ℕ)) (state : State) (tells : Type 0) (start now : List ℕ) : Type 0 where
   pub passages : List Passage
   pub as_many : length passages ≡ index
-  pub comes : run_all set all files ≡ behind passages (run_from set.quantum (drop index all) state files)
+  pub comes : run_all set all files ≡ behind passages (run_from (modes_of set) (drop index all) state files)
   pub sent : tells → now ≡ start ++ texts_of passages
 
 -- The same of a session, which stands for the state that those commands come to.
@@ -46,11 +47,11 @@ pub record SessionHasRun (set : Settings) (all : List Command) (index : ℕ) (fi
   pub run : HasRun set all index files state tells start now
 
 -- what a command comes to on states that are alike
-like_done : (quantum turns : ℕ) (files : List ℕ → Option (List ℕ)) (command : Command) (a b : State) → quantum ≡ turns → AreLikeStates a b
-    → AreLikePerformed (command_done quantum files command a) (command_done turns files command b)
-like_done quantum turns files command a b same like =
-    subst (λ n. AreLikePerformed (command_done quantum files command a) (command_done n files command b)) same
-    (like_performed quantum (file_in (file_asked files command)) command a b like)
+like_done : (modes turns : Modes) (files : List ℕ → Option (List ℕ)) (command : Command) (a b : State) → modes ≡ turns → AreLikeStates a b
+    → AreLikePerformed (command_done modes files command a) (command_done turns files command b)
+like_done modes turns files command a b same like =
+    subst (λ n. AreLikePerformed (command_done modes files command a) (command_done n files command b)) same
+    (like_performed modes (file_in (file_asked files command)) command a b like)
 
 -- an outcome that has more passages in front
 outcome_behind : (passages : List Passage) (passage : Passage) (outcome : RunOutcome) → behind passages (done passage outcome) ≡ behind (passages ++ passage ∷ []) outcome
@@ -131,23 +132,23 @@ failed_name h new (Some name) failed = (name, refl, failed)
 comes_at : (set : Settings) (all : List Command) (index : ℕ) (command : Command) (files now_files : List ℕ → Option (List ℕ)) (state : State) (tells : Type 0)
     (start now : List ℕ) → index < length all → command ≡ get_or all index command → ((name : List ℕ) → now_files name ≡ files name)
     → (run : HasRun set all index files state tells start now)
-    → run_all set all files ≡ behind run.passages (with_asked (file_asked now_files command) (passage_of (file_asked now_files command) (command_done set.quantum now_files command state))
-    (run_from set.quantum (drop (index + 1) all) (command_done set.quantum now_files command state).after files))
+    → run_all set all files ≡ behind run.passages (with_asked (file_asked now_files command) (passage_of (file_asked now_files command) (command_done (modes_of set) now_files command state))
+    (run_from (modes_of set) (drop (index + 1) all) (command_done (modes_of set) now_files command state).after files))
 comes_at set all index command files now_files state tells start now below is same run =
-    run.comes ∙ ap (λ left. behind run.passages (run_from set.quantum left state files)) (left_at all index command below is)
-    ∙ ap (λ asked. behind run.passages (with_asked asked (passage_of asked (performed set.quantum (file_in asked) command state))
-    (run_from set.quantum (drop (index + 1) all) (performed set.quantum (file_in asked) command state).after files)))
+    run.comes ∙ ap (λ left. behind run.passages (run_from (modes_of set) left state files)) (left_at all index command below is)
+    ∙ ap (λ asked. behind run.passages (with_asked asked (passage_of asked (performed (modes_of set) (file_in asked) command state))
+    (run_from (modes_of set) (drop (index + 1) all) (performed (modes_of set) (file_in asked) command state).after files)))
     (sym (same_asked files now_files command same))
 
 -- one command more is done
 one_step : (set : Settings) (all : List Command) (index : ℕ) (command : Command) (files now_files : List ℕ → Option (List ℕ)) (state : State) (tells : Type 0)
     (start now new : List ℕ) → index < length all → command ≡ get_or all index command → ((name : List ℕ) → now_files name ≡ files name)
     → HasRun set all index files state tells start now → has_all (file_asked now_files command) ≡ true
-    → (tells → IsSent now (command_done set.quantum now_files command state).text new)
-    → HasRun set all (index + 1) files (command_done set.quantum now_files command state).after tells start new
+    → (tells → IsSent now (command_done (modes_of set) now_files command state).text new)
+    → HasRun set all (index + 1) files (command_done (modes_of set) now_files command state).after tells start new
 one_step set all index command files now_files state tells start now new below is same run has sends =
-    let passage = passage_of (file_asked now_files command) (command_done set.quantum now_files command state) in
-    let left = run_from set.quantum (drop (index + 1) all) (command_done set.quantum now_files command state).after files in
+    let passage = passage_of (file_asked now_files command) (command_done (modes_of set) now_files command state) in
+    let left = run_from (modes_of set) (drop (index + 1) all) (command_done (modes_of set) now_files command state).after files in
     record {
       passages = run.passages ++ passage ∷ [];
       as_many = length-append run.passages (passage ∷ []) ∙ ap (λ n. n + 1) run.as_many;
@@ -159,26 +160,26 @@ one_step set all index command files now_files state tells start now new below i
           ∙ ap (λ bs. start ++ bs) (sym (one_more run.passages passage));
     }
 
-pub step : (set : Settings) (quantum : ℕ) (all : List Command) (index : ℕ) (command : Command) (files now_files : List ℕ → Option (List ℕ)) (session after : State)
-    (tells : Type 0) (start now new : List ℕ) → quantum ≡ set.quantum → index < length all → command ≡ get_or all index command → ((name : List ℕ) → now_files name ≡ files name)
+pub step : (set : Settings) (modes : Modes) (all : List Command) (index : ℕ) (command : Command) (files now_files : List ℕ → Option (List ℕ)) (session after : State)
+    (tells : Type 0) (start now new : List ℕ) → modes ≡ (modes_of set) → index < length all → command ≡ get_or all index command → ((name : List ℕ) → now_files name ≡ files name)
     → SessionHasRun set all index files session tells start now → has_all (file_asked now_files command) ≡ true
-    → (tells → IsSent now (command_done quantum now_files command session).text new) → AreLikeStates after (command_done quantum now_files command session).after
+    → (tells → IsSent now (command_done modes now_files command session).text new) → AreLikeStates after (command_done modes now_files command session).after
     → SessionHasRun set all (index + 1) files after tells start new
-step set quantum all index command files now_files session after tells start now new turns below is same has_run has sends leaves =
+step set modes all index command files now_files session after tells start now new turns below is same has_run has sends leaves =
     let state = has_run.state in
-    let like = like_done quantum set.quantum now_files command session state turns has_run.stands in
+    let like = like_done modes (modes_of set) now_files command session state turns has_run.stands in
     record {
-      state = (command_done set.quantum now_files command state).after;
-      stands = states_chain after (command_done quantum now_files command session).after (command_done set.quantum now_files command state).after leaves like.after;
+      state = (command_done (modes_of set) now_files command state).after;
+      stands = states_chain after (command_done modes now_files command session).after (command_done (modes_of set) now_files command state).after leaves like.after;
       run = one_step set all index command files now_files state tells start now new below is same has_run.run has
           (λ is_told. subst (λ text. IsSent now text new) like.text (sends is_told));
     }
 
-pub none_run : (set : Settings) (all : List Command) (files : List ℕ → Option (List ℕ)) (session : State) (tells : Type 0) (start : List ℕ) → session ≡ fresh set.frames
+pub none_run : (set : Settings) (all : List Command) (files : List ℕ → Option (List ℕ)) (session : State) (tells : Type 0) (start : List ℕ) → session ≡ fresh (modes_of set)
     → SessionHasRun set all 0 files session tells start start
 none_run set all files session tells start is = record {
-  state = fresh set.frames;
-  stands = states_same session (fresh set.frames) is;
+  state = fresh (modes_of set);
+  stands = states_same session (fresh (modes_of set)) is;
   run = record { passages = []; as_many = refl; comes = refl; sent = λ is_told. sym (append-nil start) };
 }
 
@@ -190,7 +191,7 @@ pub all_done : {H K : Type 0} (set : Settings) (h : ShelfOf H) (k : SinkOf K) (a
     → RunEnds h k (run_all set all files) (map asks all) shelf_old shelf_new start now (Ok tt)
 all_done set h k all index files session shelf_old shelf_new start now last none has_run asked =
     let run = has_run.run in
-    let comes = run.comes ∙ ap (λ left. behind run.passages (run_from set.quantum left has_run.state files)) none in
+    let comes = run.comes ∙ ap (λ left. behind run.passages (run_from (modes_of set) left has_run.state files)) none in
     let many : length (map asks all) ≤ index = omega (arith, last, length-map all asks) in
     let enough : length (map asks all) ≤ length (run_all set all files).passages + 1 =
     omega (arith, last, length-map all asks, run.as_many, as_long (run_all set all files) run.passages _ ending.Done comes) in (
@@ -221,23 +222,23 @@ halted : {H K : Type 0} (set : Settings) (h : ShelfOf H) (k : SinkOf K) (halt : 
     (files now_files : List ℕ → Option (List ℕ)) (state : State) (shelf_old shelf_new : H) (start now new : K)
     → index < length all → command ≡ get_or all index command → ((name : List ℕ) → now_files name ≡ files name)
     → HasRun set all index files state k.tells (k.taken start) (k.taken now) → WasGiven (file_asked now_files command) (Err halt)
-    → LacksMemory (file_asked now_files command) (command_done set.quantum now_files command state) (Err halt)
-    → (k.tells → Sends (k.taken now) (command_done set.quantum now_files command state).text (k.taken new) (Err halt))
+    → LacksMemory (file_asked now_files command) (command_done (modes_of set) now_files command state) (Err halt)
+    → (k.tells → Sends (k.taken now) (command_done (modes_of set) now_files command state).text (k.taken new) (Err halt))
     → FailedFor h shelf_new (asks command) (Err halt)
     → AsksFor h.fetched (named (take (index + 1) (map asks all))) shelf_old shelf_new
     → RunEnds h k (run_all set all files) (map asks all) shelf_old shelf_new start new (Err halt)
 halted set h k Missing all index command files now_files state shelf_old shelf_new start now new below is same run given lacks sends failed asked =
     unfetched set h k ending.ReadFailed all index command files now_files state shelf_old shelf_new start now new run asked sends
     (comes_at set all index command files now_files state k.tells (k.taken start) (k.taken now) below is same run
-    ∙ ap (λ a. behind run.passages (with_asked a (passage_of (file_asked now_files command) (command_done set.quantum now_files command state))
-    (run_from set.quantum (drop (index + 1) all) (command_done set.quantum now_files command state).after files))) given)
+    ∙ ap (λ a. behind run.passages (with_asked a (passage_of (file_asked now_files command) (command_done (modes_of set) now_files command state))
+    (run_from (modes_of set) (drop (index + 1) all) (command_done (modes_of set) now_files command state).after files))) given)
 halted set h k TooLong all index command files now_files state shelf_old shelf_new start now new below is same run given lacks sends failed asked =
     unfetched set h k ending.TooLong all index command files now_files state shelf_old shelf_new start now new run asked sends
     (comes_at set all index command files now_files state k.tells (k.taken start) (k.taken now) below is same run
-    ∙ ap (λ a. behind run.passages (with_asked a (passage_of (file_asked now_files command) (command_done set.quantum now_files command state))
-    (run_from set.quantum (drop (index + 1) all) (command_done set.quantum now_files command state).after files))) given)
+    ∙ ap (λ a. behind run.passages (with_asked a (passage_of (file_asked now_files command) (command_done (modes_of set) now_files command state))
+    (run_from (modes_of set) (drop (index + 1) all) (command_done (modes_of set) now_files command state).after files))) given)
 halted set h k FetchFailed all index command files now_files state shelf_old shelf_new start now new below is same run given lacks sends failed asked =
-    let left = run_from set.quantum (drop index all) state files in
+    let left = run_from (modes_of set) (drop index all) state files in
     let named_by = failed_name h shelf_new (asks command) failed in
     let at : ◌≡◌ {A = ℕ} index (length run.passages) = sym run.as_many in (
       index,
@@ -249,12 +250,12 @@ halted set h k FetchFailed all index command files now_files state shelf_old she
       λ is_told. sends is_told ∙ run.sent is_told ∙ ap (λ bs. k.taken start ++ bs) (sym (ap (λ n. first_report n (run_all set all files)) at ∙ first_texts _ run.passages left run.comes)),
     )
 halted set h k Memory all index command files now_files state shelf_old shelf_new start now new below is same run given lacks sends failed asked =
-    let left = run_from set.quantum (drop index all) state files in
+    let left = run_from (modes_of set) (drop index all) state files in
     let out = run_all set all files in
-    let next = run_from set.quantum (drop (index + 1) all) (command_done set.quantum now_files command state).after files in
+    let next = run_from (modes_of set) (drop (index + 1) all) (command_done (modes_of set) now_files command state).after files in
     let comes = comes_at set all index command files now_files state k.tells (k.taken start) (k.taken now) below is same run in
     let wants = ap (λ n. (passage_after n out).wants_memory) (sym run.as_many) ∙ ap (λ (o : RunOutcome). (passage_after (length run.passages) o).wants_memory) comes
-    ∙ wants_next run.passages (file_asked now_files command) (command_done set.quantum now_files command state) next lacks in (
+    ∙ wants_next run.passages (file_asked now_files command) (command_done (modes_of set) now_files command state) next lacks in (
       index,
       index + 1,
       subst (λ n. n ≤ length out.passages) run.as_many (within _ run.passages left run.comes),
@@ -263,8 +264,8 @@ halted set h k Memory all index command files now_files state shelf_old shelf_ne
       λ is_told. sends is_told ∙ run.sent is_told ∙ ap (λ bs. k.taken start ++ bs) (sym (ap (λ n. first_report n (run_all set all files)) (sym run.as_many) ∙ first_texts _ run.passages left run.comes)),
     )
 halted set h k SendFailed all index command files now_files state shelf_old shelf_new start now new below is same run given lacks sends failed asked =
-    let passage = passage_of (file_asked now_files command) (command_done set.quantum now_files command state) in
-    let left = run_from set.quantum (drop (index + 1) all) (command_done set.quantum now_files command state).after files in
+    let passage = passage_of (file_asked now_files command) (command_done (modes_of set) now_files command state) in
+    let left = run_from (modes_of set) (drop (index + 1) all) (command_done (modes_of set) now_files command state).after files in
     let out = run_all set all files in
     let comes = comes_at set all index command files now_files state k.tells (k.taken start) (k.taken now) below is same run
     ∙ ap (behind run.passages) (has_asked (file_asked now_files command) passage left given) in
@@ -285,18 +286,18 @@ lacks_like TooLong asked x y same lacks = tt
 lacks_like FetchFailed asked x y same lacks = tt
 lacks_like SendFailed asked x y same lacks = tt
 
-pub stop : {H K : Type 0} (set : Settings) (quantum : ℕ) (h : ShelfOf H) (k : SinkOf K) (r : Result (Unit {0}) Halt) (halt : Halt) (all : List Command) (index : ℕ) (command : Command)
-    (files now_files : List ℕ → Option (List ℕ)) (session : State) (shelf_old shelf_new : H) (start now new : K) → quantum ≡ set.quantum → r ≡ Err halt
+pub stop : {H K : Type 0} (set : Settings) (modes : Modes) (h : ShelfOf H) (k : SinkOf K) (r : Result (Unit {0}) Halt) (halt : Halt) (all : List Command) (index : ℕ) (command : Command)
+    (files now_files : List ℕ → Option (List ℕ)) (session : State) (shelf_old shelf_new : H) (start now new : K) → modes ≡ (modes_of set) → r ≡ Err halt
     → index < length all → command ≡ get_or all index command → ((name : List ℕ) → now_files name ≡ files name)
     → SessionHasRun set all index files session k.tells (k.taken start) (k.taken now) → WasGiven (file_asked now_files command) (Err halt)
-    → LacksMemory (file_asked now_files command) (command_done quantum now_files command session) (Err halt)
-    → (k.tells → Sends (k.taken now) (command_done quantum now_files command session).text (k.taken new) (Err halt))
+    → LacksMemory (file_asked now_files command) (command_done modes now_files command session) (Err halt)
+    → (k.tells → Sends (k.taken now) (command_done modes now_files command session).text (k.taken new) (Err halt))
     → FailedFor h shelf_new (asks command) (Err halt)
     → AsksFor h.fetched (named (take (index + 1) (map asks all))) shelf_old shelf_new
     → RunEnds h k (run_all set all files) (map asks all) shelf_old shelf_new start new r
-stop set quantum h k r halt all index command files now_files session shelf_old shelf_new start now new turns is_err below is same has_run given lacks sends failed asked =
-    let like = like_done quantum set.quantum now_files command session has_run.state turns has_run.stands in
+stop set modes h k r halt all index command files now_files session shelf_old shelf_new start now new turns is_err below is same has_run given lacks sends failed asked =
+    let like = like_done modes (modes_of set) now_files command session has_run.state turns has_run.stands in
     subst (RunEnds h k (run_all set all files) (map asks all) shelf_old shelf_new start new) (sym is_err)
     (halted set h k halt all index command files now_files has_run.state shelf_old shelf_new start now new below is same has_run.run given
-    (lacks_like halt (file_asked now_files command) (command_done quantum now_files command session) (command_done set.quantum now_files command has_run.state) like.wants lacks)
+    (lacks_like halt (file_asked now_files command) (command_done modes now_files command session) (command_done (modes_of set) now_files command has_run.state) like.wants lacks)
     (λ is_told. subst (λ text. Sends (k.taken now) text (k.taken new) (Err halt)) like.text (sends is_told)) failed asked)

@@ -4,13 +4,14 @@ use Rattle.ovl_io.specs.declared.shelf.Shelf.{Ghosts as ShelfOf}
 use Rattle.ovl_io.specs.declared.sink.Sink.{Ghosts as SinkOf}
 use Rattle.script_text.specs.declared.command.Command.{Command}
 use Rattle.report_text.specs.FullLines.{behind_lines, has_full_line}
+use Rattle.command_core.specs.declared.modes.Modes.{Modes}
 use Rattle.command_core.specs.State.{State, fresh}
 use Rattle.command_core.specs.Commands.{FileAsked, AsksNothing, HasFile, IsMissing, IsTooLong, Performed, file_asked, file_in, performed, performed_by}
 use Rattle.command_core.specs.Unbounded.{Unbounded, unbounded}
-use Rattle.command_core.specs.UnboundedLaws.{PerformedSame, with_stats, performed_lines, same_performed, unbounded_of}
+use Rattle.command_core.specs.UnboundedLaws.{PerformedSame, with_told, performed_lines, same_performed, unbounded_of}
 use Rattle.overlay_top.specs.declared.words.Settings.{Settings}
 use Rattle.overlay_top.specs.Words.{settings_of}
-use Rattle.overlay_top.specs.Outcome.{Asking, RunOutcome, SaysCommands, SaysOutside, SaysTooMuch, ScriptSays, asks_file, chosen_files, chosen_script, command_done, done, outcome_set, passage_of, report_of, run_by, run_from, run_outcome, said, said_outcome, says_by, texts_of, with_asked}
+use Rattle.overlay_top.specs.Outcome.{modes_of, Asking, RunOutcome, SaysCommands, SaysOutside, SaysTooMuch, ScriptSays, asks_file, chosen_files, chosen_script, command_done, done, outcome_set, passage_of, report_of, run_by, run_from, run_outcome, said, said_outcome, says_by, texts_of, with_asked}
 use Rattle.overlay_top.specs.Unbounded.{EndsUnbounded, run_unbounded, unbounded_set}
 use Rattle.overlay_top.specs.Ends.{EndsWith, World}
 
@@ -25,54 +26,54 @@ same_passage asked x y counts same =
     ap (λ (text : List ℕ). record { text = text; wants_memory = asks_file asked || x.wants_memory }) same.text
     ∙ ap (λ wants. record { text = y.text; wants_memory = asks_file asked || wants }) same.wants
 
-module _ (quantum : ℕ) (files : List ℕ → Option (List ℕ)) where
-  -- the lines of `stats`, one after the other
-  stats_from : List Command → State → List (List ℕ)
-  stats_from [] state = []
-  stats_from (command ∷ commands) state = with_stats command state (stats_from commands (command_done quantum files command state).after)
+module _ (modes : Modes) (files : List ℕ → Option (List ℕ)) where
+  -- the lines of the commands that are told by the ledger, one after the other
+  told_from : List Command → State → List (List ℕ)
+  told_from [] state = []
+  told_from (command ∷ commands) state = with_told command state (told_from commands (command_done modes files command state).after)
 
   abbrev runs_there : List Command → State → RunOutcome
-  runs_there commands state = run_by unbounded quantum commands (unbounded_of (stats_from commands state) state) files
+  runs_there commands state = run_by unbounded modes commands (unbounded_of (told_from commands state) state) files
 
   -- one command that is done, and those that follow
   module _ (command : Command) (commands : List Command) (state : State)
-      (others : (after : State) → SaysNoFull (run_from quantum commands after files) → run_from quantum commands after files ≡ runs_there commands after) where
+      (others : (after : State) → SaysNoFull (run_from modes commands after files) → run_from modes commands after files ≡ runs_there commands after) where
     done_same : (asked : FileAsked) (file : List ℕ)
-        → SaysNoFull (done (passage_of asked (performed quantum file command state)) (run_from quantum commands (performed quantum file command state).after files))
-        → done (passage_of asked (performed quantum file command state)) (run_from quantum commands (performed quantum file command state).after files)
-        ≡ done (passage_of asked (performed_by unbounded quantum file command
-        (unbounded_of (with_stats command state (stats_from commands (performed quantum file command state).after)) state)))
-        (run_by unbounded quantum commands (performed_by unbounded quantum file command
-        (unbounded_of (with_stats command state (stats_from commands (performed quantum file command state).after)) state)).after files)
+        → SaysNoFull (done (passage_of asked (performed modes file command state)) (run_from modes commands (performed modes file command state).after files))
+        → done (passage_of asked (performed modes file command state)) (run_from modes commands (performed modes file command state).after files)
+        ≡ done (passage_of asked (performed_by unbounded modes file command
+        (unbounded_of (with_told command state (told_from commands (performed modes file command state).after)) state)))
+        (run_by unbounded modes commands (performed_by unbounded modes file command
+        (unbounded_of (with_told command state (told_from commands (performed modes file command state).after)) state)).after files)
     done_same asked file none =
-        let here = performed quantum file command state in
-        let rest = run_from quantum commands here.after files in
-        let lines = stats_from commands here.after in
+        let here = performed modes file command state in
+        let rest = run_from modes commands here.after files in
+        let lines = told_from commands here.after in
         let apart : has_full_line (here.text ++ report_of rest) ≡ false =
         sym (ap has_full_line (append_assoc here.text (texts_of rest.passages) rest.last.text)) ∙ none in
-        let same = same_performed lines (report_of rest) quantum file command state apart in
-        let there = performed_by unbounded quantum file command (unbounded_of (with_stats command state lines) state) in
-        let left = others here.after (behind_lines here.text (report_of rest) (performed_lines quantum file command state) apart) in
+        let same = same_performed lines (report_of rest) modes file command state apart in
+        let there = performed_by unbounded modes file command (unbounded_of (with_told command state lines) state) in
+        let left = others here.after (behind_lines here.text (report_of rest) (performed_lines modes file command state) apart) in
         ap (λ passage. done passage rest) (same_passage asked here there lines same)
-        ∙ ap (done (passage_of asked there)) (left ∙ ap (λ u. run_by unbounded quantum commands u files) same.after)
+        ∙ ap (done (passage_of asked there)) (left ∙ ap (λ u. run_by unbounded modes commands u files) same.after)
 
     asked_same : (asked : FileAsked)
-        → SaysNoFull (with_asked asked (passage_of asked (performed quantum (file_in asked) command state))
-        (run_from quantum commands (performed quantum (file_in asked) command state).after files))
-        → with_asked asked (passage_of asked (performed quantum (file_in asked) command state))
-        (run_from quantum commands (performed quantum (file_in asked) command state).after files)
-        ≡ with_asked asked (passage_of asked (performed_by unbounded quantum (file_in asked) command
-        (unbounded_of (with_stats command state (stats_from commands (performed quantum (file_in asked) command state).after)) state)))
-        (run_by unbounded quantum commands (performed_by unbounded quantum (file_in asked) command
-        (unbounded_of (with_stats command state (stats_from commands (performed quantum (file_in asked) command state).after)) state)).after files)
+        → SaysNoFull (with_asked asked (passage_of asked (performed modes (file_in asked) command state))
+        (run_from modes commands (performed modes (file_in asked) command state).after files))
+        → with_asked asked (passage_of asked (performed modes (file_in asked) command state))
+        (run_from modes commands (performed modes (file_in asked) command state).after files)
+        ≡ with_asked asked (passage_of asked (performed_by unbounded modes (file_in asked) command
+        (unbounded_of (with_told command state (told_from commands (performed modes (file_in asked) command state).after)) state)))
+        (run_by unbounded modes commands (performed_by unbounded modes (file_in asked) command
+        (unbounded_of (with_told command state (told_from commands (performed modes (file_in asked) command state).after)) state)).after files)
     asked_same AsksNothing none = done_same AsksNothing [] none
     asked_same (HasFile file) none = done_same (HasFile file) file none
     asked_same IsMissing none = refl
     asked_same IsTooLong none = refl
 
-  runs_same : (commands : List Command) (state : State) → SaysNoFull (run_from quantum commands state files)
-      → run_from quantum commands state files ≡ runs_there commands state
-  unfolding stats_from
+  runs_same : (commands : List Command) (state : State) → SaysNoFull (run_from modes commands state files)
+      → run_from modes commands state files ≡ runs_there commands state
+  unfolding told_from
   runs_same [] state none = refl
   runs_same (command ∷ commands) state none =
       asked_same command commands state (runs_same commands) (file_asked files command) none
@@ -83,7 +84,7 @@ says_same : (set : Settings) (files : List ℕ → Option (List ℕ)) (says : Sc
 says_same set files SaysTooMuch none = ([], refl)
 says_same set files (SaysOutside line) none = ([], refl)
 says_same set files (SaysCommands commands) none =
-    (stats_from set.quantum files commands (fresh set.frames), runs_same set.quantum files commands (fresh set.frames) none)
+    (told_from (modes_of set) files commands (fresh (modes_of set)), runs_same (modes_of set) files commands (fresh (modes_of set)) none)
 
 set_same : (found : Option Settings) (script : List ℕ) (files : List ℕ → Option (List ℕ)) → SaysNoFull (outcome_set found script files)
     → (counts : List (List ℕ)) × (outcome_set found script files ≡ unbounded_set counts found script files)

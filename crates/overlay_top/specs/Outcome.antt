@@ -6,6 +6,7 @@ use Rattle.script_text.specs.Script.{commands_of}
 use Rattle.workload.specs.Script.{made_script}
 use Rattle.workload.specs.File.{made_file}
 use Rattle.report_text.specs.Lines.{bad_line}
+use Rattle.command_core.specs.declared.modes.Modes.{Modes}
 use Rattle.command_core.specs.State.{State, fresh}
 use Rattle.command_core.specs.Commands.{FileAsked, AsksNothing, HasFile, IsMissing, IsTooLong, Performed, Rules, asks, file_asked, file_in, performed_by, rules}
 use Rattle.overlay_top.specs.declared.words.Settings.{Settings}
@@ -55,12 +56,12 @@ done passage outcome = record { passages = passage ∷ outcome.passages; last = 
 abbrev pub MayLackMemory : RunOutcome → ℕ → ℕ → Type 0
 MayLackMemory outcome j begun = ((j ≡ 0) × (begun ≡ 0)) ⊎ ((begun ≡ j + 1) × ((passage_after j outcome).wants_memory ≡ true))
 
--- a command on a state by the rules of a machine, over files by name, where turns have this quantum
-abbrev pub done_by : {S : Type 0} → Rules S → ℕ → (List ℕ → Option (List ℕ)) → Command → S → Performed S
-done_by by quantum files command state = performed_by by quantum (file_in (file_asked files command)) command state
+-- a command on a state by the rules of a machine, over files by name, by what is fixed for the run
+abbrev pub done_by : {S : Type 0} → Rules S → Modes → (List ℕ → Option (List ℕ)) → Command → S → Performed S
+done_by by modes files command state = performed_by by modes (file_in (file_asked files command)) command state
 
-abbrev pub command_done : ℕ → (List ℕ → Option (List ℕ)) → Command → State → Performed State
-command_done quantum files command state = done_by rules quantum files command state
+abbrev pub command_done : Modes → (List ℕ → Option (List ℕ)) → Command → State → Performed State
+command_done modes files command state = done_by rules modes files command state
 
 -- The commands of a script on a state, over files by name. One that asks for a file that isn't there, or that
 -- is too long, ends the call.
@@ -78,18 +79,22 @@ asks_file other = true
 abbrev pub passage_of : {S : Type 0} → FileAsked → Performed S → Passage
 passage_of asked performed = record { text = performed.text; wants_memory = asks_file asked || performed.wants_memory }
 
-abbrev pub run_by : {S : Type 0} → Rules S → ℕ → List Command → S → (List ℕ → Option (List ℕ)) → RunOutcome
-run_by by quantum [] state files = ended [] Done
-run_by by quantum (command ∷ commands) state files =
-    with_asked (file_asked files command) (passage_of (file_asked files command) (done_by by quantum files command state))
-    (run_by by quantum commands (done_by by quantum files command state).after files)
+abbrev pub run_by : {S : Type 0} → Rules S → Modes → List Command → S → (List ℕ → Option (List ℕ)) → RunOutcome
+run_by by modes [] state files = ended [] Done
+run_by by modes (command ∷ commands) state files =
+    with_asked (file_asked files command) (passage_of (file_asked files command) (done_by by modes files command state))
+    (run_by by modes commands (done_by by modes files command state).after files)
 
-abbrev pub run_from : ℕ → List Command → State → (List ℕ → Option (List ℕ)) → RunOutcome
-run_from quantum commands state files = run_by rules quantum commands state files
+abbrev pub run_from : Modes → List Command → State → (List ℕ → Option (List ℕ)) → RunOutcome
+run_from modes commands state files = run_by rules modes commands state files
 
--- all of them, from no process
+-- what the words fix for the run
+abbrev pub modes_of : Settings → Modes
+modes_of settings = record { frames = settings.frames; quantum = settings.quantum }
+
+-- all commands, from no process
 abbrev pub run_all : Settings → List Command → (List ℕ → Option (List ℕ)) → RunOutcome
-run_all settings commands files = run_from settings.quantum commands (fresh settings.frames) files
+run_all settings commands files = run_from (modes_of settings) commands (fresh (modes_of settings)) files
 
 -- What a script says: too much, or its commands, or the number of its first line that is outside.
 pub data ScriptSays : Type 0 where

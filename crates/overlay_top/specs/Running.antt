@@ -88,7 +88,7 @@ LeavesOn done session result = OnOk result (AreLikeStates session.state done.aft
 pub record TakesOn {K T E : Type 0} (k : SinkOf K) (sink_old sink_new : K) (done : Performed State) (old new : InSession) (result : Result T E) : Type 0 where
   pub sends : SendsText k sink_old done.text sink_new result
   pub after : LeavesOn done new result
-  pub quantum : new.quantum ≡ old.quantum
+  pub modes : new.modes ≡ old.modes
 
 -- what came of a change was told: its line; or nothing for want of memory
 abbrev pub TellsAnswer : {K : Type 0} → SinkOf K → Answer → K → K → Result (Unit {0}) Halt → Type 0
@@ -108,7 +108,7 @@ EndsCommand k old new done after other = ⊥
 
 pub record DoesCommand {K : Type 0} (k : SinkOf K) (sink_old sink_new : K) (done : Performed State) (old new : InSession) (result : Result (Unit {0}) Halt) : Type 0 where
   pub ends : EndsCommand k sink_old sink_new done new.state result
-  pub quantum : new.quantum ≡ old.quantum
+  pub modes : new.modes ≡ old.modes
 
 -- What the sink holds, where it tells its bytes.
 abbrev pub Reported : {K : Type 0} → SinkOf K → K → List ℕ → K → Type 0

@@ -7,14 +7,14 @@ use Rattle.report_text.specs.FullLines.{has_full_line}
 use Rattle.command_core.specs.Unbounded.{fresh_unbounded, unbounded}
 use Rattle.overlay_top.specs.declared.words.Settings.{Settings}
 use Rattle.overlay_top.specs.Words.{settings_of}
-use Rattle.overlay_top.specs.Outcome.{Asking, RunOutcome, report_of, run_by, run_outcome, set_by}
+use Rattle.overlay_top.specs.Outcome.{Asking, RunOutcome, modes_of, report_of, run_by, run_outcome, set_by}
 use Rattle.overlay_top.specs.Ends.{EndsWith, World}
 
 -- What a call comes to in the unbounded machine, which copies the whole memory at each fork, checkpoint and speculation start, and has no
--- ledger, no frames and no limit. The lines of `stats` tell of a ledger: they are given.
+-- ledger, no frames and no limit. The lines of the commands that are told by the ledger (`stats`) are given.
 
 abbrev pub run_unbounded : List (List ℕ) → Settings → List Command → (List ℕ → Option (List ℕ)) → RunOutcome
-run_unbounded counts settings commands files = run_by unbounded settings.quantum commands (fresh_unbounded counts) files
+run_unbounded counts settings commands files = run_by unbounded (modes_of settings) commands (fresh_unbounded counts) files
 
 abbrev pub unbounded_set : List (List ℕ) → Option Settings → List ℕ → (List ℕ → Option (List ℕ)) → RunOutcome
 unbounded_set counts set script files = set_by (run_unbounded counts) set script files

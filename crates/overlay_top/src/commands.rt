@@ -169,7 +169,7 @@ fn step<K: Sink>(
 /// Gives processes so many turns, by round robin.
 fn run_all<K: Sink>(session: &mut Session, turns: u32, report: &mut Report<K>) -> Result<(), Failed>
     ensures takes { TakesOn K.Sink report.old.sink.now report.new.sink.now
-        (run_done rules session.old.quantum turns session.old.state) session.old session.new result }
+        (run_done rules session.old.modes.quantum turns session.old.state) session.old session.new result }
     ensures same { report.new.sink.ghost_name ≡ report.old.sink.ghost_name }
 {
     let mut running = session.begin_run(turns);
@@ -394,7 +394,23 @@ pub(crate) fn do_command<K: Sink>(
         Command::Regs(p) => regs(session, *p, report),
         Command::Dump(p, address, count) => dump(session, *p, *address, *count, report),
         Command::Disasm(p, address, words) => disasm(session, *p, *address, *words, report),
-        _ => return change(session, command, report),
+        Command::Fork(_)
+        | Command::Checkpoint(_, _)
+        | Command::Restore(_, _)
+        | Command::Forget(_)
+        | Command::Speculate(_)
+        | Command::Commit(_)
+        | Command::Discard(_)
+        | Command::Promote(_, _)
+        | Command::PromoteAll(_)
+        | Command::Compact
+        | Command::Map(_, _, _, _)
+        | Command::Unmap(_, _, _)
+        | Command::Drop(_)
+        | Command::Poke(_, _, _)
+        | Command::Set(_, _, _)
+        | Command::Break(_, _)
+        | Command::Unbreak(_, _) => return change(session, command, report),
     };
     match sent {
         Ok(()) => Ok(()),

@@ -78,7 +78,30 @@ fn file_of(command: &Command) -> Option<&Bytes>
     match command {
         Command::Exec(name, _) => Some(name),
         Command::Load(name) => Some(name),
-        _ => None,
+        Command::Run(_)
+        | Command::Step(_, _)
+        | Command::List
+        | Command::Stats
+        | Command::Regs(_)
+        | Command::Dump(_, _, _)
+        | Command::Disasm(_, _, _)
+        | Command::Fork(_)
+        | Command::Checkpoint(_, _)
+        | Command::Restore(_, _)
+        | Command::Forget(_)
+        | Command::Speculate(_)
+        | Command::Commit(_)
+        | Command::Discard(_)
+        | Command::Promote(_, _)
+        | Command::PromoteAll(_)
+        | Command::Compact
+        | Command::Map(_, _, _, _)
+        | Command::Unmap(_, _, _)
+        | Command::Drop(_)
+        | Command::Poke(_, _, _)
+        | Command::Set(_, _, _)
+        | Command::Break(_, _)
+        | Command::Unbreak(_, _) => None,
     }
 }
 
@@ -109,16 +132,16 @@ fn perform<H: Shelf, K: Sink>(
     requires given { IsGiven command.now }
     ensures given { H.tells → WasGiven (file_asked (H.files shelf.old) command.now) result }
     ensures sends { H.tells → SendsOn K.Sink report.old.sink.now
-        (command_done session.old.quantum (H.files shelf.old) command.now session.old.state).text report.new.sink.now result }
+        (command_done session.old.modes (H.files shelf.old) command.now session.old.state).text report.new.sink.now result }
     ensures after { H.tells →
-        LeavesOn (command_done session.old.quantum (H.files shelf.old) command.now session.old.state) session.new result }
-    ensures quantum { session.new.quantum ≡ session.old.quantum }
+        LeavesOn (command_done session.old.modes (H.files shelf.old) command.now session.old.state) session.new result }
+    ensures modes { session.new.modes ≡ session.old.modes }
     ensures shelf { ShelfBy H.Shelf shelf.old shelf.new result }
     ensures sink { SinkBy K.Sink report.old.sink.now report.new.sink.now result }
     ensures same { report.new.sink.ghost_name ≡ report.old.sink.ghost_name }
     ensures failed { FailedFor H.Shelf shelf.new (asks command.now) result }
     ensures lacks { H.tells → LacksMemory (file_asked (H.files shelf.old) command.now)
-        (command_done session.old.quantum (H.files shelf.old) command.now session.old.state) result }
+        (command_done session.old.modes (H.files shelf.old) command.now session.old.state) result }
     ensures kept { H.tells → (other : List ℕ) → H.files shelf.new other ≡ H.files shelf.old other }
     ensures fetched { AsksFor H.fetched (named (asks command.now ∷ [])) shelf.old shelf.new }
 {

@@ -1,20 +1,20 @@
-use Rattle.std.proofs.Common.{◌≡◌, ◌≤◌, None}
+use Rattle.std.proofs.Common.{◌≡◌, ◌≤◌, [], None}
 use Rattle.machine_core.specs.Machine.{KeepsPlaces, wholes}
-use Rattle.command_core.specs.Sessions.{KeepsFree, OwnSpaces}
-use Rattle.command_core.specs.Turns.{lines_left, ran_from, ran_text}
+use Rattle.command_core.specs.Sessions.{KeepsFree, NoneAwaits, OwnSpaces}
+use Rattle.command_core.specs.Turns.{Speaks, lines_left}
 use Rattle.command_core.proofs.taking.quiet_turns.Given as goal
 
 -- the turns so far had no line: what is left comes to what all come to
 abbrev pub invariant-quiet : goal.invariant-quiet
 invariant-quiet l = record {
-  text : ran_text (ran_from l.breakpoints (wholes l.fn.machine) l.fn.running.run) ≡ ran_text (ran_from l.breakpoints (wholes l.machine) l.running.run);
-  after : (ran_from l.breakpoints (wholes l.fn.machine) l.fn.running.run).after ≡ (ran_from l.breakpoints (wholes l.machine) l.running.run).after;
+  so_far : Speaks l.breakpoints (wholes l.fn.machine) l.fn.running [] (wholes l.machine) l.running;
   fewer : lines_left l.running ≤ lines_left l.fn.running;
   goes : l.running.stop ≡ None;
   asked : l.running.run.turns ≡ l.fn.running.run.turns;
   kept : KeepsPlaces l.fn.machine l.machine;
   free : KeepsFree l.fn.machine l.machine;
   spaces : OwnSpaces l.machine;
+  awaits : NoneAwaits l.machine;
 }
 
 abbrev pub decreases-quiet : goal.decreases-quiet

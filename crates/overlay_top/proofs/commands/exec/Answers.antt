@@ -11,7 +11,7 @@ returns-in-Ok-clause-does g c =
     record {
       ends = ends_done g.K.Sink c.args.report.now.sink.now c.tell_loaded.new.report.sink.now (tells_exec rules c.args.turns c.load-answer.result mid.state)
           (exec_done rules c.args.file.now c.args.turns state) mid c.tell_loaded.new.session like.text c.in-Ok.ensures.takes like.after;
-      quantum = c.in-Ok.ensures.takes.quantum ∙ c.load-answer.ensures.quantum;
+      modes = c.in-Ok.ensures.takes.modes ∙ c.load-answer.ensures.modes;
     }
 
 pub returns-clause-does : goal.returns-clause-does
@@ -22,5 +22,5 @@ returns-clause-does g c =
     record {
       ends = ends_failed g.K.Sink c.args.report.now.sink.now c.tell_loaded.new.report.sink.now (tells_exec rules c.args.turns c.load-answer.result mid.state)
           (exec_done rules c.args.file.now c.args.turns state) mid c.tell_loaded.new.session like.text _ c.in-Err.ensures.takes;
-      quantum = c.in-Err.ensures.takes.quantum ∙ c.load-answer.ensures.quantum;
+      modes = c.in-Err.ensures.takes.modes ∙ c.load-answer.ensures.modes;
     }

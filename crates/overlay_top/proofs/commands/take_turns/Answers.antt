@@ -18,7 +18,7 @@ turns-init g c = record {
   checkpoints = refl;
   breakpoints = refl;
   drawn = refl;
-  quantum = refl;
+  modes = refl;
   after = like_itself (left_of c.args.session.now.state.breakpoints c.args.session.now.state.wholes c.args.running.now).after;
   text = λ tells. none_done (g.K.Sink.taken c.args.report.now.sink.now) (ran_text (left_of c.args.session.now.state.breakpoints c.args.session.now.state.wholes c.args.running.now));
 }
@@ -33,7 +33,7 @@ turns-preserved g c =
       checkpoints = c.turn_line.ensures.others.checkpoints ∙ c.turns.invariant.checkpoints;
       breakpoints = c.turn_line.ensures.others.breakpoints ∙ c.turns.invariant.breakpoints;
       drawn = c.turn_line.ensures.others.drawn ∙ c.turns.invariant.drawn;
-      quantum = c.turn_line.ensures.others.quantum ∙ c.turns.invariant.quantum;
+      modes = c.turn_line.ensures.others.modes ∙ c.turns.invariant.modes;
       after =
           like_chain (left_of c.args.session.now.state.breakpoints c.args.session.now.state.wholes c.args.running.now).after (left_of c.args.session.now.state.breakpoints c.turns.session.state.wholes c.turns.running).after
           (left_of c.args.session.now.state.breakpoints c.turn_line.new.self.state.wholes c.turn_line.new.running).after c.turns.invariant.after says.1;
@@ -55,7 +55,7 @@ returns-in_err-send-clause-takes g c =
           _ c.turn_line.new.line.items rest _ c.in_err-send.field-0.0 c.from_residual.result c.in_err-send.field-0.0 is_err
           says.0 c.turns.invariant.text c.in_err-send.ensures.sends;
       after = subst (λ r. LeavesOn {T = Unit {0}} (takes_left c.args.running.now c.args.session.now.state) c.turn_line.new.self r) (sym is_err) tt;
-      quantum = c.turn_line.ensures.others.quantum ∙ c.turns.invariant.quantum;
+      modes = c.turn_line.ensures.others.modes ∙ c.turns.invariant.modes;
     }
 
 pub returns-clause-takes : goal.returns-clause-takes
@@ -73,5 +73,5 @@ returns-clause-takes g c =
           (ended_after c.args.session.now.state c.turns.session.state c.turn_line.new.self.state c.args.running.now c.turns.running c.turn_line.new.running
           c.turns.invariant.after ends (c.turn_line.ensures.others.checkpoints ∙ c.turns.invariant.checkpoints)
           (c.turn_line.ensures.others.breakpoints ∙ c.turns.invariant.breakpoints) (c.turn_line.ensures.others.drawn ∙ c.turns.invariant.drawn));
-      quantum = c.turn_line.ensures.others.quantum ∙ c.turns.invariant.quantum;
+      modes = c.turn_line.ensures.others.modes ∙ c.turns.invariant.modes;
     }

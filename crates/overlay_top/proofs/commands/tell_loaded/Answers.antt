@@ -13,7 +13,7 @@ returns-in-Err-clause-takes g c =
           (tells_exec rules c.args.turns c.args.answer.now c.args.session.now.state).text c.in-Err.failed (Err c.in-Err.failed) c.in-Err.failed refl refl
           (λ tells. none_done (g.K.Sink.taken start) _) c.in-Err.ensures.sends;
       after = tt;
-      quantum = refl;
+      modes = refl;
     }
 
 pub returns-in-Ok-clause-takes : goal.returns-in-Ok-clause-takes
@@ -27,5 +27,5 @@ returns-in-Ok-clause-takes g c =
           refl (c.in-Ok.ensures.sends.1 tells) (none_done (g.K.Sink.taken start) _))
           c.turns_of_loaded.ensures.takes.sends;
       after = c.turns_of_loaded.ensures.takes.after;
-      quantum = c.turns_of_loaded.ensures.takes.quantum;
+      modes = c.turns_of_loaded.ensures.takes.modes;
     }

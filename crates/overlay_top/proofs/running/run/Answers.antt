@@ -13,7 +13,7 @@ use Rattle.overlay_top.proofs.running.run.Goals as goal
 pub running-init : goal.running-init
 running-init g c = record {
   same = refl;
-  quantum = ap (λ (s : InSession). s.quantum) c.in_ok-session.ensures.session;
+  modes = ap (λ (s : InSession). s.modes) c.in_ok-session.ensures.session;
   shelf = refl;
   sink = refl;
   kept = λ tells other. refl;
@@ -29,10 +29,10 @@ returns-in_err-perform-clause-ends g c tells =
     let index = c.running.command-index in
     let command = c.command-item.result in
     let below : index < length (map asks all) = omega (arith, c.running-test.true, length-map all asks) in
-    stop c.args.settings c.running.session.quantum g.H.Shelf g.K.Sink c.from_residual-in_err-perform.result c.in_err-perform.field-0.0 all index command
+    stop c.args.settings c.running.session.modes g.H.Shelf g.K.Sink c.from_residual-in_err-perform.result c.in_err-perform.field-0.0 all index command
     (g.H.Shelf.files c.args.shelf.now) (g.H.Shelf.files c.running.shelf) c.running.session.state
     c.args.shelf.now c.perform.new.shelf c.args.report.now.sink.now c.running.report.sink.now c.perform.new.report.sink.now
-    c.running.invariant.quantum (by_err c.from_residual-in_err-perform.result c.in_err-perform.field-0.0 c.from_residual-in_err-perform.ensures)
+    c.running.invariant.modes (by_err c.from_residual-in_err-perform.result c.in_err-perform.field-0.0 c.from_residual-in_err-perform.ensures)
     c.running-test.true c.command-item.is (c.running.invariant.kept tells) (c.running.invariant.runs tells)
     (c.in_err-perform.ensures.given tells) (c.in_err-perform.ensures.lacks tells) (c.in_err-perform.ensures.sends tells) c.in_err-perform.ensures.failed
     (fetches_next g.H.Shelf.fetched (map asks all) index (asks command) c.args.shelf.now c.running.shelf c.perform.new.shelf below
@@ -57,7 +57,7 @@ running-preserved g c =
     let below : index < length (map asks all) = omega (arith, c.running-test.true, length-map all asks) in
     record {
       same = c.in_ok-perform.ensures.same ∙ c.running.invariant.same;
-      quantum = c.in_ok-perform.ensures.quantum ∙ c.running.invariant.quantum;
+      modes = c.in_ok-perform.ensures.modes ∙ c.running.invariant.modes;
       shelf = c.in_ok-perform.ensures.shelf ∙ c.running.invariant.shelf;
       sink = c.in_ok-perform.ensures.sink ∙ c.running.invariant.sink;
       kept = λ tells other. c.in_ok-perform.ensures.kept tells other ∙ c.running.invariant.kept tells other;
@@ -65,9 +65,9 @@ running-preserved g c =
           fetches_next g.H.Shelf.fetched (map asks all) index (asks command) c.args.shelf.now c.running.shelf c.perform.new.shelf below
           (asked_at asks all index command c.running-test.true c.command-item.is) c.running.invariant.asked c.in_ok-perform.ensures.fetched;
       runs = λ tells.
-          step c.args.settings c.running.session.quantum all index command (g.H.Shelf.files c.args.shelf.now) (g.H.Shelf.files c.running.shelf)
+          step c.args.settings c.running.session.modes all index command (g.H.Shelf.files c.args.shelf.now) (g.H.Shelf.files c.running.shelf)
           c.running.session.state c.perform.new.session.state g.K.Sink.tells (g.K.Sink.taken c.args.report.now.sink.now) (g.K.Sink.taken c.running.report.sink.now)
-          (g.K.Sink.taken c.perform.new.report.sink.now) c.running.invariant.quantum c.running-test.true c.command-item.is (c.running.invariant.kept tells) (c.running.invariant.runs tells)
+          (g.K.Sink.taken c.perform.new.report.sink.now) c.running.invariant.modes c.running-test.true c.command-item.is (c.running.invariant.kept tells) (c.running.invariant.runs tells)
           (c.in_ok-perform.ensures.given tells) (c.in_ok-perform.ensures.sends tells) (c.in_ok-perform.ensures.after tells);
     }
 

@@ -1,7 +1,7 @@
 use Rattle.std.proofs.Common.{◌≡◌, ℕ, List, take, map}
 use Rattle.ovl_io.specs.Outside.{AsksFor}
 use Rattle.command_core.specs.Commands.{asks}
-use Rattle.overlay_top.specs.Outcome.{named}
+use Rattle.overlay_top.specs.Outcome.{modes_of, named}
 use Rattle.overlay_top.proofs.Runs.{SessionHasRun}
 use Rattle.overlay_top.proofs.running.run.Given as goal
 
@@ -9,7 +9,7 @@ use Rattle.overlay_top.proofs.running.run.Given as goal
 abbrev pub invariant-running : goal.invariant-running
 invariant-running g l = record {
   same : l.report.sink.ghost_name ≡ l.fn.report.sink.ghost_name;
-  quantum : l.session.quantum ≡ l.fn.settings.quantum;
+  modes : l.session.modes ≡ modes_of l.fn.settings;
   shelf : g.H.Shelf.faults l.shelf ≡ g.H.Shelf.faults l.fn.shelf;
   sink : g.K.Sink.faults l.report.sink.now ≡ g.K.Sink.faults l.fn.report.sink.now;
   kept : g.H.Shelf.tells → (other : List ℕ) → g.H.Shelf.files l.shelf other ≡ g.H.Shelf.files l.fn.shelf other;

@@ -8,6 +8,6 @@ use Rattle.command_core.proofs.session.Session.begin_run.Goals as goal
 
 pub returns-clause-stands : goal.returns-clause-stands
 returns-clause-stands c =
-    run_begun c.args.self.now (by_turns c.args.self.now.quantum c.args.turns) c.begin.result
+    run_begun c.args.self.now (by_turns c.args.self.now.modes.quantum c.args.turns) c.begin.result
     (c.begin.ensures ∙ ap (λ (t : Turns). run_found c.args.self.now.state.breakpoints c.args.self.now.state.wholes (begun_by (ByTurns t) c.args.turns)) c.new.ensures
-    ∙ ap (λ (s : InSession). run_found c.args.self.now.state.breakpoints c.args.self.now.state.wholes (by_turns s.quantum c.args.turns)) c.self.view_is)
+    ∙ ap (λ (s : InSession). run_found c.args.self.now.state.breakpoints c.args.self.now.state.wholes (by_turns s.modes.quantum c.args.turns)) c.self.view_is)

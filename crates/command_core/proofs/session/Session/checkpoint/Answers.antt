@@ -1,78 +1,82 @@
-use Rattle.std.proofs.Common.{◌+◌, ◌≤◌, rules, List, subst, sym, refl}
+use Rattle.std.proofs.Common.{◌≡◌, ◌∙◌, List, Some, None, subst, sym, refl}
 use Rattle.std.specs.Prelude.{Ok}
-use Rattle.sizes.specs.declared.TheConstants.{LAST_SPACE}
+use Rattle.command_core.specs.Rows.{first_refusal}
 use Rattle.report_text.specs.declared.answer.Answer.TheVariants.{Refused, Saved}
 use Rattle.command_core.specs.declared.checkpoints.Kept.{Kept}
 use Rattle.command_core.specs.State.{registry_of}
 use Rattle.command_core.specs.Sessions.{InSession, IsSession}
 use Rattle.command_core.specs.Kept.{shown_session, shown_state, spaces_kept}
 use Rattle.command_core.specs.Giving.{GivesChange, WantKeeps}
-use Rattle.command_core.specs.Checkpoints.{SavesSpace, checkpoint_row}
+use Rattle.command_core.specs.Checkpoints.{SavesSpace, checkpoint_refusals, checkpoint_row}
 use Rattle.command_core.specs.Changes.{answer_of, on_process}
 use Rattle.command_core.proofs.Breaks.{above_more}
 use Rattle.command_core.proofs.Copies.{copy_keeps}
+use Rattle.command_core.proofs.Places.{free_number}
 use Rattle.command_core.proofs.Savings.{checkpoint_refused, checkpoint_saved, checkpoint_unsaved, session_of_saved, taken_is, told_mark}
 use Rattle.command_core.proofs.Wanting.{copy_keeps_all, told_keeps}
 use Rattle.command_core.proofs.session.Session.checkpoint.Goals as goal
 
-pub returns-in-Some-checkpoint_refusal-clause-gives : goal.returns-in-Some-checkpoint_refusal-clause-gives
-returns-in-Some-checkpoint_refusal-clause-gives c =
+pub returns-in-Err-clause-gives : goal.returns-in-Err-clause-gives
+returns-in-Err-clause-gives c =
     let s = c.self.inside in
-    subst (λ (s : InSession). GivesChange (on_process c.args.p (checkpoint_row c.args.p c.args.name.now) (registry_of s.state)) s.state (Refused c.in-Some-checkpoint_refusal.refusal) s.state) c.self.view_is
+    subst (λ (s : InSession). GivesChange (on_process c.args.p (checkpoint_row c.args.p c.args.name.now) (registry_of s.state)) s.state (Refused c.in-Err.code) s.state) c.self.view_is
     (checkpoint_refused s.machine s.checkpoints s.breakpoints s.drawn c.args.p c.args.name.now c.in-Some.process.now (sym c.in-Some.ensures.kept)
     c.is_speculating-speculating.result c.has-taken.result
     (told_mark s.machine c.args.p c.is_speculating-speculating.result c.memory.result.now c.is_speculating-speculating.ensures.mark c.memory.ensures)
     (taken_is s.checkpoints c.as_slice.result.now c.args.name.now c.has-taken.result c.as_slice.ensures c.has-taken.ensures)
-    c.in-Some-checkpoint_refusal.refusal (sym c.in-Some-checkpoint_refusal.ensures))
+    c.in-Err.code (subst (λ o. first_refusal (checkpoint_refusals c.is_speculating-speculating.result c.has-taken.result o) ≡ Some c.in-Err.code) c.next_number.ensures.next c.in-Err.ensures))
 
 -- it is made
 
 pub invariant_of-self : goal.invariant_of-self
 invariant_of-self c =
     let s = c.self.inside in
-    let below : c.self.inside.drawn + 1 ≤ LAST_SPACE = search rules in
-    let entered : Kept = record { name = c.args.name.now; space = s.drawn + 1; regs = c.in-Some.process.now.regs; state = c.in-Some.process.now.state } in
-    let saved = subst (λ t. SavesSpace c.args.p (c.self.inside.drawn + 1) c.self.inside.machine c.save_process.new.machine (Ok t)) c.in-Ok.ensures.kept.0 c.in-Ok.ensures.saves in (
-      subst (λ (xs : List Kept). IsSession c.save_process.new.machine (spaces_kept xs) (c.self.inside.drawn + 1)) (sym c.in-Ok.ensures.kept.1)
-          (session_of_saved s.machine c.save_process.new.machine s.checkpoints s.drawn c.args.p entered c.self.invariant.0 below refl saved),
+    let free = free_number s.drawn c.in-Ok.q (sym c.next_number.ensures.next ∙ c.in-Ok.ensures.1) in
+    let entered : Kept = record { name = c.args.name.now; space = c.in-Ok.q; regs = c.in-Some.process.now.regs; state = c.in-Some.process.now.state } in
+    let saved = subst (λ t. SavesSpace c.args.p c.in-Ok.q c.self.inside.machine c.save_process.new.machine (Ok t)) c.in-Ok-save_process.ensures.kept.0 c.in-Ok-save_process.ensures.saves in (
+      subst (λ (xs : List Kept). IsSession c.save_process.new.machine (spaces_kept xs) c.in-Ok.q) (sym c.in-Ok-save_process.ensures.kept.1)
+          (session_of_saved s.machine c.save_process.new.machine s.checkpoints s.drawn c.in-Ok.q c.args.p entered c.self.invariant.0 free refl saved),
       c.self.invariant.1,
-      above_more s.breakpoints s.drawn c.self.invariant.2,
+      above_more s.breakpoints s.drawn c.in-Ok.q free.0 c.self.invariant.2,
     )
 
-pub returns-in-Ok-clause-gives : goal.returns-in-Ok-clause-gives
-returns-in-Ok-clause-gives c =
+pub returns-in-Ok-save_process-clause-gives : goal.returns-in-Ok-save_process-clause-gives
+returns-in-Ok-save_process-clause-gives c =
     let s = c.self.inside in
     let p = c.args.p in
     let name = c.args.name.now in
-    let saved = subst (λ t. SavesSpace c.args.p (c.self.inside.drawn + 1) c.self.inside.machine c.save_process.new.machine (Ok t)) c.in-Ok.ensures.kept.0 c.in-Ok.ensures.saves in
-    subst (λ (s : InSession). GivesChange (on_process c.args.p (checkpoint_row c.args.p c.args.name.now) (registry_of s.state)) s.state (Saved c.args.p c.in-Ok.told (c.self.inside.drawn + 1))
-    (shown_state c.save_process.new.machine c.save_process.new.checkpoints c.self.inside.breakpoints (c.self.inside.drawn + 1))) c.self.view_is
+    let next = sym c.next_number.ensures.next ∙ c.in-Ok.ensures.1 in
+    let saved = subst (λ t. SavesSpace c.args.p c.in-Ok.q c.self.inside.machine c.save_process.new.machine (Ok t)) c.in-Ok-save_process.ensures.kept.0 c.in-Ok-save_process.ensures.saves in
+    subst (λ (s : InSession). GivesChange (on_process c.args.p (checkpoint_row c.args.p c.args.name.now) (registry_of s.state)) s.state (Saved c.args.p c.in-Ok-save_process.told c.in-Ok.q)
+    (shown_state c.save_process.new.machine c.save_process.new.checkpoints c.self.inside.breakpoints c.in-Ok.q)) c.self.view_is
     (subst (λ t. GivesChange (on_process c.args.p (checkpoint_row c.args.p c.args.name.now) (registry_of (shown_state c.self.inside.machine c.self.inside.checkpoints c.self.inside.breakpoints c.self.inside.drawn)))
-    (shown_state c.self.inside.machine c.self.inside.checkpoints c.self.inside.breakpoints c.self.inside.drawn) (Saved c.args.p t (c.self.inside.drawn + 1))
-    (shown_state c.save_process.new.machine c.save_process.new.checkpoints c.self.inside.breakpoints (c.self.inside.drawn + 1))) (sym c.in-Ok.ensures.kept.0)
+    (shown_state c.self.inside.machine c.self.inside.checkpoints c.self.inside.breakpoints c.self.inside.drawn) (Saved c.args.p t c.in-Ok.q)
+    (shown_state c.save_process.new.machine c.save_process.new.checkpoints c.self.inside.breakpoints c.in-Ok.q)) (sym c.in-Ok-save_process.ensures.kept.0)
     (subst (λ (xs : List Kept). GivesChange (on_process c.args.p (checkpoint_row c.args.p c.args.name.now) (registry_of (shown_state c.self.inside.machine c.self.inside.checkpoints c.self.inside.breakpoints c.self.inside.drawn)))
-    (shown_state c.self.inside.machine c.self.inside.checkpoints c.self.inside.breakpoints c.self.inside.drawn) (Saved c.args.p c.args.name.now (c.self.inside.drawn + 1))
-    (shown_state c.save_process.new.machine xs c.self.inside.breakpoints (c.self.inside.drawn + 1))) (sym c.in-Ok.ensures.kept.1)
+    (shown_state c.self.inside.machine c.self.inside.checkpoints c.self.inside.breakpoints c.self.inside.drawn) (Saved c.args.p c.args.name.now c.in-Ok.q)
+    (shown_state c.save_process.new.machine xs c.self.inside.breakpoints c.in-Ok.q)) (sym c.in-Ok-save_process.ensures.kept.1)
     (checkpoint_saved s.machine s.checkpoints s.breakpoints s.drawn p name c.in-Some.process.now (sym c.in-Some.ensures.kept)
     c.is_speculating-speculating.result c.has-taken.result
     (told_mark s.machine p c.is_speculating-speculating.result c.memory.result.now c.is_speculating-speculating.ensures.mark c.memory.ensures)
     (taken_is s.checkpoints c.as_slice.result.now name c.has-taken.result c.as_slice.ensures c.has-taken.ensures)
-    c.save_process.new.machine c.self.invariant.0 (sym c.in-None-checkpoint_refusal.ensures) saved)))
+    c.save_process.new.machine c.in-Ok.q c.self.invariant.0 next
+    (subst (λ o. first_refusal (checkpoint_refusals c.is_speculating-speculating.result c.has-taken.result o) ≡ None) c.next_number.ensures.next c.in-Ok.ensures.0)
+    (free_number s.drawn c.in-Ok.q next).0 saved)))
 
 -- it isn't
 
-pub invariant_of-self-in-Err : goal.invariant_of-self-in-Err
-invariant_of-self-in-Err c =
+pub invariant_of-self-in-Err-save_process : goal.invariant_of-self-in-Err-save_process
+invariant_of-self-in-Err-save_process c =
     let s = c.self.inside in
-    let keeps = copy_keeps c.args.p (s.drawn + 1) s.machine c.save_process.new.machine c.in-Err.error c.in-Err.ensures.saves in (
-      subst (λ (xs : List Kept). IsSession c.save_process.new.machine (spaces_kept xs) c.self.inside.drawn) (sym c.in-Err.ensures.kept)
+    let keeps = copy_keeps c.args.p c.in-Ok.q s.machine c.save_process.new.machine c.in-Err-save_process.error c.in-Err-save_process.ensures.saves in (
+      subst (λ (xs : List Kept). IsSession c.save_process.new.machine (spaces_kept xs) c.self.inside.drawn) (sym c.in-Err-save_process.ensures.kept)
           (keeps.session (spaces_kept s.checkpoints) s.drawn c.self.invariant.0),
       c.self.invariant.1,
       c.self.invariant.2,
     )
 
-pub returns-in-Err-clause-gives : goal.returns-in-Err-clause-gives
-returns-in-Err-clause-gives c =
+pub returns-in-Err-save_process-clause-gives : goal.returns-in-Err-save_process-clause-gives
+returns-in-Err-save_process-clause-gives c =
     let s = c.self.inside in
     let p = c.args.p in
     let name = c.args.name.now in
@@ -81,20 +85,22 @@ returns-in-Err-clause-gives c =
     (subst (λ a. GivesChange (on_process c.args.p (checkpoint_row c.args.p c.args.name.now) (registry_of (shown_state c.self.inside.machine c.self.inside.checkpoints c.self.inside.breakpoints c.self.inside.drawn)))
     (shown_state c.self.inside.machine c.self.inside.checkpoints c.self.inside.breakpoints c.self.inside.drawn) a (shown_state c.save_process.new.machine c.save_process.new.checkpoints c.self.inside.breakpoints c.self.inside.drawn)) (sym c.not_made.ensures)
     (subst (λ (xs : List Kept). GivesChange (on_process c.args.p (checkpoint_row c.args.p c.args.name.now) (registry_of (shown_state c.self.inside.machine c.self.inside.checkpoints c.self.inside.breakpoints c.self.inside.drawn)))
-    (shown_state c.self.inside.machine c.self.inside.checkpoints c.self.inside.breakpoints c.self.inside.drawn) (answer_of c.in-Err.error) (shown_state c.save_process.new.machine xs c.self.inside.breakpoints c.self.inside.drawn)) (sym c.in-Err.ensures.kept)
+    (shown_state c.self.inside.machine c.self.inside.checkpoints c.self.inside.breakpoints c.self.inside.drawn) (answer_of c.in-Err-save_process.error) (shown_state c.save_process.new.machine xs c.self.inside.breakpoints c.self.inside.drawn)) (sym c.in-Err-save_process.ensures.kept)
     (checkpoint_unsaved s.machine s.checkpoints s.breakpoints s.drawn p name c.in-Some.process.now (sym c.in-Some.ensures.kept)
     c.is_speculating-speculating.result c.has-taken.result
     (told_mark s.machine p c.is_speculating-speculating.result c.memory.result.now c.is_speculating-speculating.ensures.mark c.memory.ensures)
     (taken_is s.checkpoints c.as_slice.result.now name c.has-taken.result c.as_slice.ensures c.has-taken.ensures)
-    c.save_process.new.machine c.self.invariant.0 (sym c.in-None-checkpoint_refusal.ensures) c.in-Err.error c.in-Err.ensures.saves)))
+    c.save_process.new.machine c.in-Ok.q c.self.invariant.0 (sym c.next_number.ensures.next ∙ c.in-Ok.ensures.1)
+    (subst (λ o. first_refusal (checkpoint_refusals c.is_speculating-speculating.result c.has-taken.result o) ≡ None) c.next_number.ensures.next c.in-Ok.ensures.0)
+    c.in-Err-save_process.error c.in-Err-save_process.ensures.saves)))
 
-pub returns-in-Err-clause-want : goal.returns-in-Err-clause-want
-returns-in-Err-clause-want c =
+pub returns-in-Err-save_process-clause-want : goal.returns-in-Err-save_process-clause-want
+returns-in-Err-save_process-clause-want c =
     let s = c.self.inside in
-    let old = shown_session s.machine s.checkpoints s.breakpoints s.drawn s.quantum in
+    let old = shown_session s.machine s.checkpoints s.breakpoints s.drawn s.modes in
     let new = c.save_process.new.machine in
-    told_keeps c.args.self.now old (shown_session new c.save_process.new.checkpoints s.breakpoints s.drawn s.quantum)
-    c.not_made.result (answer_of c.in-Err.error) c.self.view_is c.not_made.ensures
-    (subst (λ (xs : List Kept). WantKeeps (shown_session c.self.inside.machine c.self.inside.checkpoints c.self.inside.breakpoints c.self.inside.drawn c.self.inside.quantum)
-    (answer_of c.in-Err.error) (shown_session c.save_process.new.machine xs c.self.inside.breakpoints c.self.inside.drawn c.self.inside.quantum)) (sym c.in-Err.ensures.kept)
-    (copy_keeps_all s.machine new s.checkpoints s.breakpoints s.drawn s.quantum c.args.p (s.drawn + 1) c.in-Err.error c.in-Err.ensures.saves))
+    told_keeps c.args.self.now old (shown_session new c.save_process.new.checkpoints s.breakpoints s.drawn s.modes)
+    c.not_made.result (answer_of c.in-Err-save_process.error) c.self.view_is c.not_made.ensures
+    (subst (λ (xs : List Kept). WantKeeps (shown_session c.self.inside.machine c.self.inside.checkpoints c.self.inside.breakpoints c.self.inside.drawn c.self.inside.modes)
+    (answer_of c.in-Err-save_process.error) (shown_session c.save_process.new.machine xs c.self.inside.breakpoints c.self.inside.drawn c.self.inside.modes)) (sym c.in-Err-save_process.ensures.kept)
+    (copy_keeps_all s.machine new s.checkpoints s.breakpoints s.drawn s.modes c.args.p c.in-Ok.q c.in-Err-save_process.error c.in-Err-save_process.ensures.saves))

@@ -1,5 +1,4 @@
-use Rattle.std.proofs.Common.{arith, ◌≡◌, ◌+◌, ◌==◌, false, [], ap, subst, sym, ◌∙◌}
-use Rattle.sizes.specs.declared.TheConstants.{LAST_SPACE}
+use Rattle.std.proofs.Common.{[], subst, sym, ◌∙◌}
 use Rattle.machine_core.specs.Machine.{spaces_of}
 use Rattle.command_core.specs.State.{registry_of}
 use Rattle.command_core.specs.Sessions.{InSession}
@@ -11,7 +10,7 @@ use Rattle.command_core.specs.Ample.{amply_loaded}
 use Rattle.command_core.specs.LikeLaws.{gives_as}
 use Rattle.command_core.proofs.Breaks.{above_more}
 use Rattle.command_core.proofs.Loadings.{gives_loaded, gives_other, runs_loaded, session_other}
-use Rattle.command_core.proofs.Places.{free_same, is_below, next_same, session_load}
+use Rattle.command_core.proofs.Places.{free_same, next_same, session_load}
 use Rattle.command_core.proofs.Rows.{gives_kept}
 use Rattle.command_core.proofs.Wanting.{load_keeps_all, told_keeps}
 use Rattle.command_core.proofs.session.Session.load.Goals as goal
@@ -19,23 +18,19 @@ use Rattle.command_core.proofs.session.Session.load.Goals as goal
 pub invariant_of-self : goal.invariant_of-self
 invariant_of-self c =
     let s = c.self.inside in
-    let below = is_below s.drawn c.args.self.now.state.drawn c.are_all_drawn.result (ap (λ (s : InSession). s.state.drawn) c.self.view_is)
-    c.are_all_drawn.ensures c.if-are_all_drawn.false c.self.invariant.0.few in
-    (session_load s.machine c.load.new.self (spaces_kept s.checkpoints) s.drawn c.args.file.now c.self.invariant.0 below c.in-Ok-load.ensures.loads.2, c.self.invariant.1, above_more s.breakpoints s.drawn c.self.invariant.2)
+    let free = c.in-Some.ensures.free in
+    (session_load s.machine c.load.new.self (spaces_kept s.checkpoints) s.drawn c.in-Some.p c.args.file.now c.self.invariant.0 free.0 free.1 c.in-Ok-load.ensures.loads.2, c.self.invariant.1, above_more s.breakpoints s.drawn c.in-Some.p free.0 c.self.invariant.2)
 
 pub invariant_of-self-in-Err-load : goal.invariant_of-self-in-Err-load
 invariant_of-self-in-Err-load c =
     let s = c.self.inside in
-    let left : (c.self.inside.drawn == LAST_SPACE) ≡ false =
-    ap (λ (s : InSession). s.state.drawn == LAST_SPACE) c.self.view_is ∙ sym c.are_all_drawn.ensures ∙ c.if-are_all_drawn.false in
-    let keeps = session_other c.args.file.now s.machine c.load.new.self [] s.breakpoints s.drawn c.in-Ok.ensures.taken left c.in-Err-load.error c.in-Err-load.ensures.loads in
+    let keeps = session_other c.args.file.now s.machine c.load.new.self [] s.breakpoints s.drawn c.in-Some.p c.in-Ok.ensures.taken (sym c.in-Some.ensures.next) c.in-Err-load.error c.in-Err-load.ensures.loads in
     (keeps.session (spaces_kept s.checkpoints) s.drawn c.self.invariant.0, c.self.invariant.1, c.self.invariant.2)
 
 pub returns-in-Ok-load-clause-runs : goal.returns-in-Ok-load-clause-runs
 returns-in-Ok-load-clause-runs c =
     let s = c.self.inside in
-    runs_loaded c.args.file.now s.machine c.load.new.self (checkpoints_in (spaces_of c.load.new.self) s.checkpoints) s.breakpoints s.drawn c.in-Ok.ensures.taken
-    (ap (λ (s : InSession). s.state.drawn == LAST_SPACE) c.self.view_is ∙ sym c.are_all_drawn.ensures ∙ c.if-are_all_drawn.false)
+    runs_loaded c.args.file.now s.machine c.load.new.self (checkpoints_in (spaces_of c.load.new.self) s.checkpoints) s.breakpoints s.drawn c.in-Some.p c.in-Ok.ensures.taken (sym c.in-Some.ensures.next)
     c.in-Ok-load.pages c.entry.result c.in-Ok-load.ensures.loads
 
 pub returns-in-Ok-load-clause-gives : goal.returns-in-Ok-load-clause-gives
@@ -44,13 +39,12 @@ returns-in-Ok-load-clause-gives c =
     let s = c.self.inside in
     let old = s.machine in
     let new = c.load.new.self in
-    let answer = Loaded (s.drawn + 1) c.in-Ok-load.pages c.entry.result in
-    subst (λ (s : InSession). GivesChange (load_row file (registry_of s.state)) s.state (Loaded (c.self.inside.drawn + 1) c.in-Ok-load.pages c.entry.result)
-    (shown_state c.load.new.self c.self.inside.checkpoints c.self.inside.breakpoints (c.self.inside.drawn + 1))) c.self.view_is
-    (gives_kept (load_row file) old new s.checkpoints s.breakpoints s.drawn (next_same old new (spaces_kept s.checkpoints) s.drawn c.self.invariant.0 c.in-Ok-load.ensures.loads.2.others) answer (s.drawn + 1)
-    (gives_loaded file old new (checkpoints_in (spaces_of old) s.checkpoints) s.breakpoints s.drawn c.in-Ok.ensures.taken
-    (ap (λ (s : InSession). s.state.drawn == LAST_SPACE) c.self.view_is ∙ sym c.are_all_drawn.ensures ∙ c.if-are_all_drawn.false)
-    (c.self.invariant.2 (s.drawn + 1) (omega arith)) c.in-Ok-load.pages c.entry.result c.in-Ok-load.ensures.loads (c.entry.ensures ∙ c.in-Ok.ensures.entry)))
+    let answer = Loaded c.in-Some.p c.in-Ok-load.pages c.entry.result in
+    subst (λ (s : InSession). GivesChange (load_row file (registry_of s.state)) s.state (Loaded c.in-Some.p c.in-Ok-load.pages c.entry.result)
+    (shown_state c.load.new.self c.self.inside.checkpoints c.self.inside.breakpoints c.in-Some.p)) c.self.view_is
+    (gives_kept (load_row file) old new s.checkpoints s.breakpoints s.drawn (next_same old new (spaces_kept s.checkpoints) s.drawn c.in-Some.p c.self.invariant.0 c.in-Some.ensures.free.0 c.in-Ok-load.ensures.loads.2.others) answer c.in-Some.p
+    (gives_loaded file old new (checkpoints_in (spaces_of old) s.checkpoints) s.breakpoints s.drawn c.in-Some.p c.in-Ok.ensures.taken (sym c.in-Some.ensures.next)
+    (c.self.invariant.2 c.in-Some.p c.in-Some.ensures.free.0) c.in-Ok-load.pages c.entry.result c.in-Ok-load.ensures.loads (c.entry.ensures ∙ c.in-Ok.ensures.entry)))
 
 pub returns-clause-gives : goal.returns-clause-gives
 returns-clause-gives c =
@@ -59,11 +53,9 @@ returns-clause-gives c =
     let old = s.machine in
     let new = c.load.new.self in
     let kept = checkpoints_in (spaces_of old) s.checkpoints in
-    let left : (s.drawn == LAST_SPACE) ≡ false =
-    ap (λ (s : InSession). s.state.drawn == LAST_SPACE) c.self.view_is ∙ sym c.are_all_drawn.ensures ∙ c.if-are_all_drawn.false in
     let e = c.in-Err-load.error in
-    let keeps = session_other file old new kept s.breakpoints s.drawn c.in-Ok.ensures.taken left e c.in-Err-load.ensures.loads in
-    let given = gives_other file old new kept s.breakpoints s.drawn c.in-Ok.ensures.taken left e c.in-Err-load.ensures.loads in
+    let keeps = session_other file old new kept s.breakpoints s.drawn c.in-Some.p c.in-Ok.ensures.taken (sym c.in-Some.ensures.next) e c.in-Err-load.ensures.loads in
+    let given = gives_other file old new kept s.breakpoints s.drawn c.in-Some.p c.in-Ok.ensures.taken (sym c.in-Some.ensures.next) e c.in-Err-load.ensures.loads in
     subst (λ (s : InSession). GivesChange (load_row file (registry_of s.state)) s.state c.not_made.result (shown_state c.load.new.self c.self.inside.checkpoints c.self.inside.breakpoints c.self.inside.drawn)) c.self.view_is
     (gives_kept (load_row file) old new s.checkpoints s.breakpoints s.drawn (free_same old new (spaces_kept s.checkpoints) keeps.free c.self.invariant.0.free) c.not_made.result s.drawn
     (subst (λ a. GivesChange (load_row file (registry_of (shown_state c.self.inside.machine c.self.inside.checkpoints c.self.inside.breakpoints c.self.inside.drawn)))
@@ -73,24 +65,24 @@ returns-clause-gives c =
 
 pub returns-in-Ok-load-clause-stands : goal.returns-in-Ok-load-clause-stands
 returns-in-Ok-load-clause-stands c =
-    let drawn = c.self.inside.drawn + 1 in
-    gives_as (load_row c.args.file.now) c.args.self.now (shown_session c.load.new.self c.self.inside.checkpoints c.self.inside.breakpoints drawn c.self.inside.quantum)
+    let drawn = c.in-Some.p in
+    gives_as (load_row c.args.file.now) c.args.self.now (shown_session c.load.new.self c.self.inside.checkpoints c.self.inside.breakpoints drawn c.self.inside.modes)
     (Loaded drawn c.in-Ok-load.pages c.entry.result) (returns-in-Ok-load-clause-gives c)
 
 pub returns-clause-stands : goal.returns-clause-stands
 returns-clause-stands c =
-    gives_as (load_row c.args.file.now) c.args.self.now (shown_session c.load.new.self c.self.inside.checkpoints c.self.inside.breakpoints c.self.inside.drawn c.self.inside.quantum)
+    gives_as (load_row c.args.file.now) c.args.self.now (shown_session c.load.new.self c.self.inside.checkpoints c.self.inside.breakpoints c.self.inside.drawn c.self.inside.modes)
     c.not_made.result (returns-clause-gives c)
 
 pub returns-clause-ample : goal.returns-clause-ample
 returns-clause-ample c =
     amply_loaded c.args.file.now c.args.self.now
-    (shown_session c.load.new.self c.self.inside.checkpoints c.self.inside.breakpoints c.self.inside.drawn c.self.inside.quantum) c.not_made.result (returns-clause-stands c)
+    (shown_session c.load.new.self c.self.inside.checkpoints c.self.inside.breakpoints c.self.inside.drawn c.self.inside.modes) c.not_made.result (returns-clause-stands c)
 
 pub returns-clause-want : goal.returns-clause-want
 returns-clause-want c =
     let s = c.self.inside in
     let new = c.load.new.self in
-    told_keeps c.args.self.now (shown_session s.machine s.checkpoints s.breakpoints s.drawn s.quantum) (shown_session new s.checkpoints s.breakpoints s.drawn s.quantum)
+    told_keeps c.args.self.now (shown_session s.machine s.checkpoints s.breakpoints s.drawn s.modes) (shown_session new s.checkpoints s.breakpoints s.drawn s.modes)
     c.not_made.result (answer_of c.in-Err-load.error) c.self.view_is c.not_made.ensures
-    (load_keeps_all s.machine new s.checkpoints s.breakpoints s.drawn s.quantum (s.drawn + 1) c.args.file.now c.in-Err-load.error c.in-Err-load.ensures.loads)
+    (load_keeps_all s.machine new s.checkpoints s.breakpoints s.drawn s.modes c.in-Some.p c.args.file.now c.in-Err-load.error c.in-Err-load.ensures.loads)

@@ -13,26 +13,26 @@ use Rattle.command_core.proofs.session.Session.new.Goals as goal
 pub returns-clause-session : goal.returns-clause-session
 returns-clause-session c =
     let started : Wholes → Bases → InSession =
-    λ w bases. record { state = record { wholes = w; checkpoints = []; breakpoints = empty; drawn = 0 }; quantum = c.args.quantum; bases = bases } in
+    λ w bases. record { state = record { wholes = w; checkpoints = []; breakpoints = empty; drawn = 0 }; modes = record { frames = c.args.frames; quantum = c.args.quantum }; bases = bases } in
     let machine = c.in_ok-new.field-0 in
-    let all = wholes_start machine c.args.frames c.in_ok-new.ensures.spaces c.in_ok-new.ensures.processes c.in_ok-new.ensures.lists in
-    let none = no_bases machine c.args.frames c.in_ok-new.ensures.spaces c.in_ok-new.ensures.processes in
-    ap (λ xs. shown_session c.in_ok-new.field-0 xs c.new-3.result 0 c.args.quantum) c.new-2.ensures
-    ∙ ap (λ (breaks : Breaks). shown_session c.in_ok-new.field-0 [] breaks 0 c.args.quantum) c.new-3.ensures
+    let all = wholes_start machine (record { frames = c.args.frames; quantum = c.args.quantum }) c.in_ok-new.ensures.spaces c.in_ok-new.ensures.processes c.in_ok-new.ensures.lists in
+    let none = no_bases machine (record { frames = c.args.frames; quantum = c.args.quantum }) c.in_ok-new.ensures.spaces c.in_ok-new.ensures.processes in
+    ap (λ xs. shown_session c.in_ok-new.field-0 xs c.new-3.result 0 (record { frames = c.args.frames; quantum = c.args.quantum })) c.new-2.ensures
+    ∙ ap (λ (breaks : Breaks). shown_session c.in_ok-new.field-0 [] breaks 0 (record { frames = c.args.frames; quantum = c.args.quantum })) c.new-3.ensures
     ∙ λ i. started (all i) (none i)
 
 pub returns-clause-stands : goal.returns-clause-stands
 returns-clause-stands c =
     let started : Wholes → State = λ w. record { wholes = w; checkpoints = []; breakpoints = empty; drawn = 0 } in
-    states_same _ (fresh c.args.frames)
+    states_same _ (fresh (record { frames = c.args.frames; quantum = c.args.quantum }))
     (ap (λ xs. shown_state c.in_ok-new.field-0 xs c.new-3.result 0) c.new-2.ensures
     ∙ ap (λ (breaks : Breaks). shown_state c.in_ok-new.field-0 [] breaks 0) c.new-3.ensures
-    ∙ ap started (wholes_start c.in_ok-new.field-0 c.args.frames c.in_ok-new.ensures.spaces c.in_ok-new.ensures.processes c.in_ok-new.ensures.lists))
+    ∙ ap started (wholes_start c.in_ok-new.field-0 (record { frames = c.args.frames; quantum = c.args.quantum }) c.in_ok-new.ensures.spaces c.in_ok-new.ensures.processes c.in_ok-new.ensures.lists))
 
 pub invariant_of-result : goal.invariant_of-result
 invariant_of-result c = (
   subst (λ xs. IsSession c.in_ok-new.field-0 (spaces_kept xs) 0) (sym c.new-2.ensures)
-      (session_start c.in_ok-new.field-0 c.args.frames c.in_ok-new.ensures.spaces c.in_ok-new.ensures.processes),
+      (session_start c.in_ok-new.field-0 (record { frames = c.args.frames; quantum = c.args.quantum }) c.in_ok-new.ensures.spaces c.in_ok-new.ensures.processes),
   c.requires.quantum,
   λ p above. ap (λ (breaks : Breaks). get breaks p) c.new-3.ensures ∙ get-empty nat_cmp p,
 )

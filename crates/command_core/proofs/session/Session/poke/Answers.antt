@@ -33,6 +33,6 @@ pub returns-in-Some-clause-want : goal.returns-in-Some-clause-want
 returns-in-Some-clause-want c =
     let s = c.self.inside in
     let new = c.poke.new.machine in
-    told_keeps c.args.self.now (shown_session s.machine s.checkpoints s.breakpoints s.drawn s.quantum) (shown_session new s.checkpoints s.breakpoints s.drawn s.quantum)
+    told_keeps c.args.self.now (shown_session s.machine s.checkpoints s.breakpoints s.drawn s.modes) (shown_session new s.checkpoints s.breakpoints s.drawn s.modes)
     c.poke.result c.poke.result c.self.view_is refl
-    (machine_keeps s.machine new s.checkpoints s.breakpoints s.drawn s.quantum c.poke.result c.poke.ensures.done.want)
+    (machine_keeps s.machine new s.checkpoints s.breakpoints s.drawn s.modes c.poke.result c.poke.ensures.done.want)

@@ -94,6 +94,6 @@ pub returns-in-Err-clause-want : goal.returns-in-Err-clause-want
 returns-in-Err-clause-want c =
     let s = c.self.inside in
     let new = c.restore_process.new.machine in
-    told_keeps c.args.self.now (shown_session s.machine s.checkpoints s.breakpoints s.drawn s.quantum) (shown_session new s.checkpoints s.breakpoints s.drawn s.quantum)
+    told_keeps c.args.self.now (shown_session s.machine s.checkpoints s.breakpoints s.drawn s.modes) (shown_session new s.checkpoints s.breakpoints s.drawn s.modes)
     c.not_made.result (answer_of c.in-Err.error) c.self.view_is c.not_made.ensures
-    (copy_keeps_all s.machine new s.checkpoints s.breakpoints s.drawn s.quantum c.in-Some-get.kept.now.space c.args.p c.in-Err.error c.in-Err.ensures)
+    (copy_keeps_all s.machine new s.checkpoints s.breakpoints s.drawn s.modes c.in-Some-get.kept.now.space c.args.p c.in-Err.error c.in-Err.ensures)

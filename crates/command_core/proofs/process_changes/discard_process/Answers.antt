@@ -1,5 +1,5 @@
 use Rattle.command_core.proofs.Speculating.{nothing_saved}
-use Rattle.command_core.proofs.overlays.discard_process.Goals as goal
+use Rattle.command_core.proofs.process_changes.discard_process.Goals as goal
 
 pub returns-in-None-clause-done : goal.returns-in-None-clause-done
 returns-in-None-clause-done c =

@@ -18,8 +18,8 @@ use Rattle.speculation.specs.declared.error.SpeculationError.TheVariants as spec
 use Rattle.report_text.specs.declared.answer.Answer.{Answer}
 use Rattle.report_text.specs.declared.answer.Answer.TheVariants.{Done, Refused, Full}
 use Rattle.report_text.specs.declared.answer.Code.TheVariants.{Speculating, NotSpeculating, Unmapped}
-use Rattle.command_core.specs.declared.overlays.OverlayChange.{OverlayChange}
-use Rattle.command_core.specs.declared.overlays.OverlayChange.TheVariants.{Speculate, Commit, Discard, Promote, PromoteAll, Map, Unmap, Set}
+use Rattle.command_core.specs.declared.process_changes.ProcessChange.{ProcessChange}
+use Rattle.command_core.specs.declared.process_changes.ProcessChange.TheVariants.{Speculate, Commit, Discard, Promote, PromoteAll, Map, Unmap, Set}
 use Rattle.command_core.specs.State.{Registry, process_of, whole_of}
 use Rattle.command_core.specs.Rows.{Row, TakesLast, plain_row, refused_row}
 use Rattle.command_core.specs.Giving.{MachineGives}
@@ -29,16 +29,11 @@ use Rattle.command_core.specs.Refusals.{map_refusals, unmap_refusals, by_ended, 
 
 -- A speculation begins: the whole is kept.
 abbrev pub after_speculate : Process → Process
-after_speculate process = record {
-  registers = process.registers;
-  state = process.state;
-  memory = process.memory;
-  kept = Some (whole_of process);
-}
+after_speculate process = record process { kept = Some (whole_of process) }
 
 -- it ends, and what was kept is forgotten
 abbrev pub after_commit : Process → Process
-after_commit process = record { registers = process.registers; state = process.state; memory = process.memory; kept = None }
+after_commit process = record process { kept = None }
 
 -- it ends, and the whole that was kept is there again
 abbrev pub after_discard : Whole → Process
@@ -53,55 +48,42 @@ pages_gone from n memory = fold (λ m page. remove m page) memory (range_with_le
 
 -- the process with this memory
 abbrev pub with_pages : Memory → Process → Process
-with_pages memory process = record { registers = process.registers; state = process.state; memory = memory; kept = process.kept }
+with_pages memory process = record process { memory = memory }
 
 -- the process with this value of a register, or of the pc
 abbrev pub set_register : ℕ → ℕ → Registers → Registers
 set_register register value registers = if nat_lt register PC_NUMBER then with_register registers register value else with_pc registers value
 
 abbrev pub after_set : ℕ → ℕ → Process → Process
-after_set register value process =
-    record { registers = set_register register value process.registers; state = process.state; memory = process.memory; kept = process.kept }
+after_set register value process = record process { registers = set_register register value process.registers }
 
 -- the process in its place
 abbrev pub leaves : ℕ → Process → Registry → Registry
-leaves p process registry =
-    record {
-      processes = insert registry.processes p process;
-      checkpoints = registry.checkpoints;
-      breakpoints = registry.breakpoints;
-      drawn = registry.drawn;
-    }
+leaves p process registry = record registry { processes = insert registry.processes p process }
 
 -- The changes, a row each: whether it may need units, whose translations it removes, its refusals, what happens to the ledger, and what it
 -- leaves.
-abbrev pub overlay_row : ℕ → OverlayChange → Process → Registry → Row
-overlay_row p Speculate process registry =
+abbrev pub process_row : ℕ → ProcessChange → Process → Registry → Row
+process_row p Speculate process registry =
     plain_row true (Some p) (by_ended process.state ∷ by_speculating (is_speculating process) ∷ []) (event.Settle p) (leaves p (after_speculate process) registry)
-overlay_row p Commit process registry =
+process_row p Commit process registry =
     plain_row false (Some p) (by_not_speculating (is_speculating process) ∷ []) (event.Commit p) (leaves p (after_commit process) registry)
-overlay_row p Discard process registry =
+process_row p Discard process registry =
     option_map_or (λ whole. plain_row false (Some p) [] (event.Discard p) (leaves p (after_discard whole) registry)) process.kept (refused_row NotSpeculating registry)
-overlay_row p (Promote address) process registry =
+process_row p (Promote address) process registry =
     plain_row true (Some p) (by_speculating (is_speculating process) ∷ by_unmapped address process.memory ∷ []) (event.SettlePage p (address / PAGE_BYTES)) registry
-overlay_row p PromoteAll process registry = plain_row true (Some p) (by_speculating (is_speculating process) ∷ []) (event.Settle p) registry
-overlay_row p (Map address n perms) process registry = record {
-  refusals = map_refusals address n (is_speculating process) process.memory;
-  memory = TakesLast;
-  event = event.Map p (address / PAGE_BYTES) n;
-  may_need_units = false;
-  flushes = Some p;
-  answer = Done;
-  after = leaves p (with_pages (pages_mapped perms.0 (address / PAGE_BYTES) n process.memory) process) registry;
-}
-overlay_row p (Unmap address n) process registry =
+process_row p PromoteAll process registry = plain_row true (Some p) (by_speculating (is_speculating process) ∷ []) (event.Settle p) registry
+process_row p (Map address n perms) process registry =
+    record (plain_row false (Some p) (map_refusals address n (is_speculating process) process.memory) (event.Map p (address / PAGE_BYTES) n)
+    (leaves p (with_pages (pages_mapped perms.0 (address / PAGE_BYTES) n process.memory) process) registry)) { memory = TakesLast }
+process_row p (Unmap address n) process registry =
     plain_row false (Some p) (unmap_refusals address n (is_speculating process) process.memory) (event.Unmap p (address / PAGE_BYTES) n)
     (leaves p (with_pages (pages_gone (address / PAGE_BYTES) n process.memory) process) registry)
-overlay_row p (Set register value) process registry = plain_row false None [] event.Other (leaves p (after_set register value process) registry)
+process_row p (Set register value) process registry = plain_row false None [] event.Other (leaves p (after_set register value process) registry)
 
 -- what a machine answers of one of them, at a process that stood in its place
-abbrev pub ChangesOverlays : ℕ → OverlayChange → declared.Process → Machine → Answer → Machine → Type 0
-ChangesOverlays p change process old answer new = MachineGives (overlay_row p change (whole_in (spaces_of old) p process)) old answer new
+abbrev pub ChangesProcess : ℕ → ProcessChange → declared.Process → Machine → Answer → Machine → Type 0
+ChangesProcess p change process old answer new = MachineGives (process_row p change (whole_in (spaces_of old) p process)) old answer new
 
 -- what is answered where a speculation doesn't begin or end, and where the page of an address isn't promoted
 abbrev pub speculation_answer : SpeculationError → Answer

@@ -5,7 +5,7 @@ ghost use Rattle.std.specs.FinMap.{empty, get};
 ghost use Rattle.space_maps.specs.Spaces.{space_in};
 ghost use Rattle.machine_core.specs.Machine.{has_saved, has_space, is_marked, spaces_of};
 ghost use Rattle.command_core.specs.Changes.{CanBeTold};
-ghost use Rattle.command_core.specs.Overlays.{ChangesOverlays, promotion_answer, set_register, speculation_answer};
+ghost use Rattle.command_core.specs.ProcessChanges.{ChangesProcess, promotion_answer, set_register, speculation_answer};
 
 use crate::mapping::{map_pages, unmap_pages};
 use machine_core::{Machine, Process, SavedRegs};
@@ -17,9 +17,9 @@ use script_text::PC_NUMBER;
 use sizes::PAGE_BYTES;
 use speculation::{SpeculationError, commit, discard, start};
 
-/// What is done with the overlays, the pages and the registers of a process.
+/// A change of a process that is there: of its speculation, its overlays, its pages or its registers.
 #[derive(Clone, Copy, Debug)]
-pub(crate) enum OverlayChange {
+pub(crate) enum ProcessChange {
     /// A speculation begins.
     Speculate,
     /// It ends, and what was done stays.
@@ -68,7 +68,7 @@ fn begin(machine: &mut Machine, p: u16, process: Process) -> Answer
     requires space { has_space machine.old p ≡ true }
     requires none_awaits { (space_in (spaces_of machine.old) p).awaiting ≡ empty }
     requires runs { process.state ≡ ProcessState.Running }
-    ensures done { ChangesOverlays p OverlayChange.Speculate process machine.old result machine.new }
+    ensures done { ChangesProcess p ProcessChange.Speculate process machine.old result machine.new }
     ensures told { CanBeTold result }
 {
     match start(machine.memory_mut(), p) {
@@ -94,7 +94,7 @@ fn speculate_process(machine: &mut Machine, p: u16, process: Process) -> Answer
     requires there { get machine.old.processes p ≡ Some process }
     requires space { has_space machine.old p ≡ true }
     requires none_awaits { (space_in (spaces_of machine.old) p).awaiting ≡ empty }
-    ensures done { ChangesOverlays p OverlayChange.Speculate process machine.old result machine.new }
+    ensures done { ChangesProcess p ProcessChange.Speculate process machine.old result machine.new }
     ensures told { CanBeTold result }
 {
     let state = process.state;
@@ -108,7 +108,7 @@ fn speculate_process(machine: &mut Machine, p: u16, process: Process) -> Answer
 fn commit_process(machine: &mut Machine, p: u16, process: Process) -> Answer
     requires there { get machine.old.processes p ≡ Some process }
     requires space { has_space machine.old p ≡ true }
-    ensures done { ChangesOverlays p OverlayChange.Commit process machine.old result machine.new }
+    ensures done { ChangesProcess p ProcessChange.Commit process machine.old result machine.new }
     ensures told { CanBeTold result }
 {
     match commit(machine.memory_mut(), p) {
@@ -131,7 +131,7 @@ fn go_back(machine: &mut Machine, p: u16, process: Process, saved: SavedRegs) ->
     requires there { get machine.old.processes p ≡ Some process }
     requires space { has_space machine.old p ≡ true }
     requires saved { process.saved ≡ Some saved }
-    ensures done { ChangesOverlays p OverlayChange.Discard process machine.old result machine.new }
+    ensures done { ChangesProcess p ProcessChange.Discard process machine.old result machine.new }
     ensures told { CanBeTold result }
 {
     match discard(machine.memory_mut(), p) {
@@ -153,7 +153,7 @@ fn discard_process(machine: &mut Machine, p: u16, process: Process) -> Answer
     requires there { get machine.old.processes p ≡ Some process }
     requires space { has_space machine.old p ≡ true }
     requires kept { is_marked machine.old p ≡ has_saved machine.old p }
-    ensures done { ChangesOverlays p OverlayChange.Discard process machine.old result machine.new }
+    ensures done { ChangesProcess p ProcessChange.Discard process machine.old result machine.new }
     ensures told { CanBeTold result }
 {
     let kept = process.saved;
@@ -168,7 +168,7 @@ fn promote_page(machine: &mut Machine, p: u16, process: Process, address: u64) -
     requires there { get machine.old.processes p ≡ Some process }
     requires space { has_space machine.old p ≡ true }
     requires none_awaits { (space_in (spaces_of machine.old) p).awaiting ≡ empty }
-    ensures done { ChangesOverlays p (OverlayChange.Promote address) process
+    ensures done { ChangesProcess p (ProcessChange.Promote address) process
         machine.old result machine.new }
     ensures told { CanBeTold result }
 {
@@ -183,7 +183,7 @@ fn promote_pages(machine: &mut Machine, p: u16, process: Process) -> Answer
     requires there { get machine.old.processes p ≡ Some process }
     requires space { has_space machine.old p ≡ true }
     requires none_awaits { (space_in (spaces_of machine.old) p).awaiting ≡ empty }
-    ensures done { ChangesOverlays p OverlayChange.PromoteAll process machine.old result machine.new }
+    ensures done { ChangesProcess p ProcessChange.PromoteAll process machine.old result machine.new }
     ensures told { CanBeTold result }
 {
     match promote_all(machine.memory_mut(), p) {
@@ -208,7 +208,7 @@ fn with_value(regs: Regs, register: u8, value: u64) -> Regs
 /// Sets a register of process `p`, or its pc, whatever its state is. What is kept of it stays.
 fn put_register(machine: &mut Machine, p: u16, process: Process, register: u8, value: u64) -> Answer
     requires there { get machine.old.processes p ≡ Some process }
-    ensures done { ChangesOverlays p (OverlayChange.Set register value) process
+    ensures done { ChangesProcess p (ProcessChange.Set register value) process
         machine.old result machine.new }
     ensures told { CanBeTold result }
 {
@@ -223,27 +223,27 @@ fn put_register(machine: &mut Machine, p: u16, process: Process, register: u8, v
 
 /// Does a change to process `p`, which is there with its space, of which no page awaits, and of which registers and state are kept
 /// exactly where it is speculating. Takes memory for pages that are mapped, and else none.
-pub(crate) fn change_overlays(
+pub(crate) fn change_process(
     machine: &mut Machine,
     p: u16,
     process: Process,
-    change: OverlayChange,
+    change: ProcessChange,
 ) -> Answer
     requires there { get machine.old.processes p ≡ Some process }
     requires space { has_space machine.old p ≡ true }
     requires none_awaits { (space_in (spaces_of machine.old) p).awaiting ≡ empty }
     requires kept { is_marked machine.old p ≡ has_saved machine.old p }
-    ensures done { ChangesOverlays p change process machine.old result machine.new }
+    ensures done { ChangesProcess p change process machine.old result machine.new }
     ensures told { CanBeTold result }
 {
     match change {
-        OverlayChange::Speculate => speculate_process(machine, p, process),
-        OverlayChange::Commit => commit_process(machine, p, process),
-        OverlayChange::Discard => discard_process(machine, p, process),
-        OverlayChange::Promote(address) => promote_page(machine, p, process, address),
-        OverlayChange::PromoteAll => promote_pages(machine, p, process),
-        OverlayChange::Map(address, n, perms) => map_pages(machine, p, process, address, n, perms),
-        OverlayChange::Unmap(address, n) => unmap_pages(machine, p, process, address, n),
-        OverlayChange::Set(register, value) => put_register(machine, p, process, register, value),
+        ProcessChange::Speculate => speculate_process(machine, p, process),
+        ProcessChange::Commit => commit_process(machine, p, process),
+        ProcessChange::Discard => discard_process(machine, p, process),
+        ProcessChange::Promote(address) => promote_page(machine, p, process, address),
+        ProcessChange::PromoteAll => promote_pages(machine, p, process),
+        ProcessChange::Map(address, n, perms) => map_pages(machine, p, process, address, n, perms),
+        ProcessChange::Unmap(address, n) => unmap_pages(machine, p, process, address, n),
+        ProcessChange::Set(register, value) => put_register(machine, p, process, register, value),
     }
 }
