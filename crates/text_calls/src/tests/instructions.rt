@@ -1,7 +1,7 @@
 //! Words of memory and their lines, a row a line behind its address: the word, and its text as a disassembler writes it
 //! with plain numbers of registers and without other names for an instruction.
 
-use report_text::{Line, disasm_line};
+use report_text::{Line, disasm_line, disasm_m_line};
 use std::test::Fail;
 
 // Each row of the instruction table in its order, with immediates at their ends; then further ends, words of which
@@ -121,5 +121,43 @@ fn words_are_printed_as_instructions(rt: HostRuntime) -> Result<(), Fail> {
     assert_eq!(rt; rows, 99);
     disasm_line(0xFEDC_BA98_7654_3210, 0x13, &mut out);
     assert!(rt; out.as_slice() == b"fedcba9876543210 00000013 addi x0, x0, 0\n".as_slice());
+    Ok(())
+}
+
+// Each row of extension M in the order of its table, and two words beside them that are no instruction.
+const EXTENSION_ROWS: &str = "02b50533 mul x10, x10, x11
+02209533 mulh x10, x1, x2
+0241a533 mulhsu x10, x3, x4
+0262b533 mulhu x10, x5, x6
+02845fb3 divu x31, x8, x8
+0283c533 div x10, x7, x8
+02a4e533 rem x10, x9, x10
+02c5f533 remu x10, x11, x12
+02e6853b mulw x10, x13, x14
+0307c53b divw x10, x15, x16
+0328d53b divuw x10, x17, x18
+0349e53b remw x10, x19, x20
+036af53b remuw x10, x21, x22
+02b5153b illegal
+04b50533 illegal";
+
+#[test]
+fn words_of_extension_m_are_printed_where_it_is_asked_for(rt: HostRuntime) -> Result<(), Fail> {
+    let mut out = Line::new();
+    let mut rows: usize = 0;
+    for row in EXTENSION_ROWS.split('\n') {
+        let (digits, _) = row.split_once(' ').expect(&rt, "a row has two parts");
+        let word = u32::from_str_radix(digits, 16).expect(&rt, "a row begins with a word");
+        disasm_m_line(0x10078, word, &mut out);
+        let want = format!(in rt.alloc(); "0000000000010078 {row}\n")?;
+        assert!(rt; out.as_slice() == want.as_bytes(), "{row}");
+        disasm_line(0x10078, word, &mut out);
+        let plain = format!(in rt.alloc(); "0000000000010078 {digits} illegal\n")?;
+        assert!(rt; out.as_slice() == plain.as_bytes(), "{row}");
+        rows = rows.saturating_add(1);
+    }
+    assert_eq!(rt; rows, 15);
+    disasm_m_line(0x10078, 0x13, &mut out);
+    assert!(rt; out.as_slice() == b"0000000000010078 00000013 addi x0, x0, 0\n".as_slice());
     Ok(())
 }
