@@ -148,6 +148,8 @@ class Study:
     def __init__(self, lines, folder, program=scripts.PROGRAM, words=(), name="SCRIPT", answered=None):
         self.lines, self.folder, self.program, self.words, self.name = lines, folder, os.path.abspath(program), list(words), name
         self.commands = [line for line in lines if line.has_command]
+        if len(lines) > scripts.MOST_SCRIPT_LINES or sum(len(line.text) + 1 for line in lines) > scripts.MOST_SCRIPT_BYTES + 1:
+            raise Failed("the script is longer than a script may be, so nothing of it is done: status 6")
         for line in self.commands:
             if line.form() is None:
                 raise Failed(f"line {line.number} of the script isn't a command: tools/check-script {name} says more")
