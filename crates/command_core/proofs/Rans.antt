@@ -55,9 +55,11 @@ pub said_then : (line : List ℕ) (r s t : Ran Wholes) → SaysThen [] r s → S
 said_then line r s t h k = (h.0 ∙ k.0, like_chain r.after s.after t.after h.1 k.1)
 
 said_first : (p : ℕ) (turn : Turn) (r s : Ran Wholes) → AreLikeRans r s → SaysThen (turn_text p turn) (first_event p turn r) s
-said_first p turn r s like =
-    (append_assoc (turn_text p turn) (flat_map (λ event. turn_text event.0 event.1) r.events) (stop_text r.taken r.stop)
-    ∙ ap (λ bs. turn_text p turn ++ bs) (like_text r s like), like.after)
+said_first p turn r s like = (
+  append_assoc (turn_text p turn) (flat_map (λ event. turn_text event.0 event.1) r.events) (stop_text r.taken r.stop)
+      ∙ ap (λ bs. turn_text p turn ++ bs) (like_text r s like),
+  like.after,
+)
 
 -- A turn, and what is left behind it.
 pub turn_said : (breaks : Breaks) (old new : Wholes) (run : Progress) (p : ℕ) (t : Turn) → last_break breaks old run ≡ None → run.taken < run.turns → next_of old run.order ≡ Some p

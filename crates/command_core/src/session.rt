@@ -20,9 +20,9 @@ ghost use Rattle.command_core.specs.Turns.{IsTurnLine, begun_by, lines_left, run
 
 use crate::checkpoints::{Checkpoints, Kept};
 use crate::forking::{fork_number, fork_process};
-use crate::process_changes::{ProcessChange, change_process};
 use crate::modes::Modes;
 use crate::poking::poke;
+use crate::process_changes::{ProcessChange, change_process};
 use crate::reading::{can_read, read_bytes};
 use crate::saving::{checkpoint_number, restore_process, save_process};
 use crate::taking::{ending, next_turn, turns_to_line};

@@ -230,8 +230,8 @@ fn event(machine: &mut Machine, p: u16) -> Turn
 /// Finds the ending that holds, where none was found before.
 fn find_ending(machine: &Machine, breakpoints: &Breakpoints, running: &mut Running)
     ensures { running.new ≡ record {
-        run = running.old.run;
-        stop = found_before breakpoints.now (wholes machine.now) running.old;
+      run = running.old.run;
+      stop = found_before breakpoints.now (wholes machine.now) running.old;
     } }
 {
     match running.stop() {
