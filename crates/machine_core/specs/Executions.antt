@@ -39,7 +39,7 @@ abbrev pub stopped_execution : Guest → Executions
 stopped_execution next = record { steps = 1; before = next; outcome = Stepped; after = next }
 
 abbrev pub more_executions : Executions → Executions
-more_executions others = record { steps = others.steps + 1; before = others.before; outcome = others.outcome; after = others.after }
+more_executions others = record others { steps = others.steps + 1 }
 
 abbrev pub is_at_stop : Addresses → Guest → Bool
 is_at_stop stops guest = contains stops guest.process.registers.pc
@@ -59,7 +59,7 @@ executions stops p (suc most) guest =
 
 -- so many steps before others
 abbrev pub after_steps : ℕ → Executions → Executions
-after_steps k others = record { steps = k + others.steps; before = others.before; outcome = others.outcome; after = others.after }
+after_steps k others = record others { steps = k + others.steps }
 
 -- the last one of all, up to the numbers of origins, and how many were steps
 pub record IsLast (all : Executions) (k : ℕ) (o : Outcome) (after : Guest) : Type 0 where
