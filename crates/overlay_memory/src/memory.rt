@@ -17,6 +17,7 @@ ghost use Rattle.overlay_pages.specs.State.{books, memory_of};
 ghost use Rattle.overlay_pages.specs.Changes.{AreAbsent, Fits, HasCopyRoom, HasShareRoom, IsPlaced, committed, copied, discarded, is_writable, limit_of, units_of, with_shared, with_written, with_zeros};
 ghost use Rattle.overlay_pages.specs.View.{HasOwnPlace, IsJoined, place_at};
 ghost use Rattle.overlay_pages.specs.Calls.{AreMapped, AreShared, AreZeros, AwaitBare, AwaitsLike, HasSettledBlocks, IsEmptyState, IsNextPage, KeepsWholeBlocks, MovesFewBeside, NoneAwaitsBelow, entries_in};
+ghost use Rattle.overlay_memory.specs.ApartLaws.{ArePagesApart};
 ghost use Rattle.overlay_memory.specs.Access.{IsFirstAbsent, Places, Reads, Stores};
 ghost use Rattle.overlay_memory.specs.Code.{IsCodeLine};
 ghost use Rattle.overlay_memory.specs.Pieces.{emptied_space};
@@ -491,9 +492,15 @@ impl OverlayMemory {
     pub fn pages(&self, space: u16) -> u32
         ensures count { result ≡ map.len (space_in (state_of self.now) space).pages }
         ensures few { result ≤ PAGE_END }
-        ensures once { NamesOnce (state_of self.now).zero_frame (entries_in (state_of self.now) space) }
     {
         self.pages.pages(space)
+    }
+
+    /// No two pages of a space have one frame, but for the zero frame. It does nothing but say so.
+    pub fn see_apart(&self, space: u16)
+        ensures { ArePagesApart (state_of self.now) space }
+    {
+        let _pages = self.pages.pages(space);
     }
 
     /// The least page of a space not below one. None exactly where none is. Costs a look-up.
