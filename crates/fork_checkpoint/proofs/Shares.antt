@@ -27,6 +27,7 @@ use Rattle.overlay_pages.specs.Calls.{AwaitsLike, IsNextPage, entries_in}
 use Rattle.overlay_memory.specs.PageLaws.{has_page, some_is}
 use Rattle.overlay_memory.specs.Pieces.{emptied_space}
 use Rattle.overlay_memory.specs.Room.{FitsAfter, units_after}
+use Rattle.overlay_memory.specs.StateMemory.{entries_at}
 use Rattle.overlay_memory.specs.Walked.{walked_all, walked_one}
 use Rattle.fork_checkpoint.specs.Parts.{low_part, low_part_absent, low_part_all, low_part_at, low_part_more, low_part_none, high_part, high_part_all, high_part_less, high_part_none, high_part_some, high_part_there, sum_low_part, viewed_low_part}
 use Rattle.fork_checkpoint.specs.Copied.{ArePagesLow, CanHave, HasCopied, with_copies, with_copy}
@@ -71,17 +72,12 @@ cut_put v s x absent = λ i. record { spaces = gone i; frames = v.frames; zero_f
         (λ same. removed_same (insert v.spaces s x) s q same ∙ sym (none (get v.spaces s) absent) ∙ ap (get v.spaces) (sym same))
         (λ other. removed_other (insert v.spaces s x) s q other ∙ get_other v.spaces s q x other))
 
--- the entries of a space's pages
-pub entry_at : (v : State) (s r : ℕ) → get (entries_in v s) r ≡ option_map (λ (x : PageState). x.entry) (page_in v s r)
-unfolding entries_in
-entry_at v s r = get_viewed (λ _ (x : PageState). x.entry) (space_in v s).pages r ∙ ap (option_map (λ (x : PageState). x.entry)) (sym (page_of v s r))
-
 entries_same : (v w : State) (s : ℕ) → space_in v s ≡ space_in w s → entries_in v s ≡ entries_in w s
 unfolding entries_in
 entries_same v w s e = ap (λ (x : SpaceState). viewed (λ _ (y : PageState). y.entry) x.pages) e
 
 pub entry_some : (v : State) (s r : ℕ) → is_some (get (entries_in v s) r) ≡ true → is_some (page_in v s r) ≡ true
-entry_some v s r some = sym (at (page_in v s r)) ∙ ap is_some (sym (entry_at v s r)) ∙ some
+entry_some v s r some = sym (at (page_in v s r)) ∙ ap is_some (sym (entries_at v s r)) ∙ some
   where
     at : (o : Option PageState) → is_some (option_map (λ (x : PageState). x.entry) o) ≡ is_some o
     at None = refl
@@ -187,7 +183,7 @@ module _ (v : State) (from to : ℕ) (differs : from ≡ to → ⊥) where
 
     waits : get (space_in now to).awaiting page ≡ Some x.entry
     waits =
-        ap (λ (m : Pages). get m page) (to_waits end) ∙ high_part_there (entries_in v from) end page next.0 ∙ entry_at v from page ∙ ap (option_map (λ (y : PageState). y.entry)) there
+        ap (λ (m : Pages). get m page) (to_waits end) ∙ high_part_there (entries_in v from) end page next.0 ∙ entries_at v from page ∙ ap (option_map (λ (y : PageState). y.entry)) there
 
     pub is_least : IsLeast (space_in now to).awaiting page
     is_least = record {
@@ -218,7 +214,7 @@ module _ (v : State) (from to : ℕ) (differs : from ≡ to → ⊥) where
     one_more = λ i. record {
       pages = sym (low_part_more (space_in v from).pages end page x (sym (page_of v from page) ∙ there)
           (λ r some. walked_one v from end page next_there r (ap is_some (page_of v from r) ∙ some))) i;
-      awaiting = sym (high_part_less (entries_in v from) end page x.entry (entry_at v from page ∙ ap (option_map (λ (y : PageState). y.entry)) there)
+      awaiting = sym (high_part_less (entries_in v from) end page x.entry (entries_at v from page ∙ ap (option_map (λ (y : PageState). y.entry)) there)
           (λ r some. walked_one v from end page next_there r (entry_some v from r some))) i;
       speculating = (space_in v to).speculating;
     }

@@ -18,6 +18,7 @@ use Rattle.ledger.specs.AlikeUnits.{units_alike}
 use Rattle.ledger.specs.Ledger.{holding_at}
 use Rattle.overlay_pages.specs.Changes.{AreAbsent, limit_of, units_of, with_zeros}
 use Rattle.overlay_pages.specs.State.{PageState, SpaceState, State, books, held_page, memory_of, seen_page}
+use Rattle.overlay_memory.specs.StateMemory.{memory_at}
 use Rattle.space_maps.specs.Books.{books_page, books_spaces}
 use Rattle.space_maps.specs.Laws.{page_of}
 use Rattle.space_maps.specs.Spaces.{bare_space, holds_space, page_in, space_in}
@@ -101,19 +102,15 @@ module _ (s : State) (p : ℕ) (bare : space_in s p ≡ bare_space) where
   bare_holding q = books_page held_page s p q ∙ ap (option_map (held_page s.zero_frame)) (bare_page q)
 
 -- a page that the memory lacks isn't there, and the other way round
-pub seen_at : (s : State) (p q : ℕ) → get (memory_of s p) q ≡ option_map seen_page (page_in s p q)
-unfolding memory_of
-seen_at s p q = get_viewed (λ _ x. seen_page x) (space_in s p).pages q ∙ ap (option_map seen_page) (sym (page_of s p q))
-
 pub not_seen : (s : State) (p q : ℕ) → get (memory_of s p) q ≡ None → page_in s p q ≡ None
-not_seen s p q absent = lacks (page_in s p q) (sym (seen_at s p q) ∙ absent)
+not_seen s p q absent = lacks (page_in s p q) (sym (memory_at s p q) ∙ absent)
   where
     lacks : (o : Option PageState) → option_map seen_page o ≡ None → o ≡ None
     lacks None h = refl
     lacks (Some x) h = cc
 
 pub isnt_seen : (s : State) (p q : ℕ) → page_in s p q ≡ None → get (memory_of s p) q ≡ None
-isnt_seen s p q absent = seen_at s p q ∙ ap (option_map seen_page) absent
+isnt_seen s p q absent = memory_at s p q ∙ ap (option_map seen_page) absent
 
 -- the next page of an image may be added
 module _ (file : List ℕ) (p : ℕ) (before now : State) (i : ℕ) (taken : file_refusal file ≡ None) (there : holds_space before p ≡ true) (bare : space_in before p ≡ bare_space)

@@ -19,7 +19,8 @@ use Rattle.promotion.specs.Fates.{IsFate}
 use Rattle.overlay_memory.specs.Joined.{IsBare}
 use Rattle.overlay_memory.specs.PageLaws.{held_there, own_absent, own_is, own_there}
 use Rattle.promotion.specs.FateFolds.{after_discard, none_own, same_altered, widened}
-use Rattle.promotion.specs.Altered.{HaveAltered, IsAlteration, WasThere, base_at, memory_at, none_yet, one_more, own_now, said_again, still, was_there}
+use Rattle.overlay_memory.specs.StateMemory.{memory_at}
+use Rattle.promotion.specs.Altered.{HaveAltered, IsAlteration, WasThere, base_at, none_yet, one_more, own_now, said_again, still, was_there}
 use Rattle.promotion.specs.Walks.{at_first, come_past, come_to, next_done, not_yet, so_far}
 use Rattle.speculation.specs.Speculated.{HasDiscarded, with_discarded}
 
