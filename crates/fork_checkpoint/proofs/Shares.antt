@@ -6,7 +6,7 @@ use Rattle.std.specs.FinMap.{empty, get, insert, remove, values}
 use Rattle.sizes.specs.declared.TheConstants.{PAGE_END}
 use Rattle.number_maps.specs.Keys.{alike, by_key, get_other, get_same, insert_kept, insert_over, removed_other, removed_same}
 use Rattle.number_maps.specs.Values.{remove_absent}
-use Rattle.number_maps.specs.Views.{get_viewed, viewed}
+use Rattle.number_maps.specs.Views.{viewed}
 use Rattle.page_table.specs.Table.{Pages}
 use Rattle.page_table.specs.declared.entry.PageEntry.{PageEntry}
 use Rattle.space_maps.specs.Books.{books_page, books_pages, books_put, books_put_shared, books_spaces}

@@ -6,7 +6,6 @@ use Rattle.std.specs.FinMap.{get, get-empty, len, len-empty}
 use Rattle.std.proofs.lemmas.Bool.Decides.{nat_tests}
 use Rattle.std.proofs.lemmas.List.{append-nil, append_assoc, get_or-map, length-map, length-take-le, take_more}
 use Rattle.number_maps.specs.Keys.{differs}
-use Rattle.number_maps.specs.Views.{get_viewed}
 use Rattle.elf_loader.specs.Accepted.{file_refusal}
 use Rattle.elf_loader.specs.Fields.{loads_of}
 use Rattle.elf_loader.specs.Image.{image_page, image_pages, is_stored, listed_page, page_numbers, perms_in, touches_memory}

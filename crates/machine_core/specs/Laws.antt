@@ -4,7 +4,7 @@ use Rattle.std.specs.Option.{option_map, option_map_or, unwrap_or}
 use Rattle.std.specs.FinMap.{FinMap, get, insert, remove}
 use Rattle.std.specs.Ordering.{nat_cmp}
 use Rattle.number_maps.specs.Keys.{alike, by_key, get_same, insert_over}
-use Rattle.number_maps.specs.Views.{get_viewed, viewed, viewed_gone, viewed_put}
+use Rattle.number_maps.specs.Views.{get_viewed, viewed, viewed_gone}
 use Rattle.ledger.specs.Ledger.{Ledger}
 use Rattle.ledger.specs.Alike.{AreAlike}
 use Rattle.ledger.specs.AlikeLaws.{alike_itself, alike_chain, alike_altered}
@@ -34,7 +34,7 @@ use Rattle.translation_cache.specs.Counted.{counted}
 use Rattle.translation_cache.specs.CountedLaws.{counted_next, counted_one}
 use Rattle.translation_cache.specs.Translations.{flushed}
 use Rattle.rv_execute.specs.CallLaws.{is_requested}
-use Rattle.machine_core.specs.Machine.{AnswersAs, AreLike, IsDropped, LeadsTo, Machine, Processes, Wholes, is_running, kept_in, kept_whole, unit_limit, lists_of, none_saved, processes_of, spaces_of, whole_in, wholes, with_process_at, without_memory, without_process, without_process_at}
+use Rattle.machine_core.specs.Machine.{AnswersAs, AreLike, IsDropped, LeadsTo, Machine, Processes, Wholes, is_running, kept_in, kept_whole, unit_limit, lists_of, none_saved, processes_of, spaces_of, whole_in, wholes, without_memory, without_process, without_process_at}
 use Rattle.machine_core.specs.Turns.{AreLikeGuests, Guest, after_asked, after_execution, after_request, after_step, after_turn, asked_found, came_to, exceeds, executed, execution_of, guest_after, guest_answered, guest_at, guest_executed, guest_of, guest_refused, guest_stepped, is_full, ledger_executed, ledger_stored, outcome_found, outcome_of, process_after, process_executed, request_of, state_executed, step_of, store_of, translations_after, translations_asked, translations_executed, turn_asked, turn_in, turn_of, units_needed, with_guest}
 use Rattle.std.specs.FinSet.{contains}
 use Rattle.breakpoints.specs.Breakpoints.{Addresses}

@@ -10,7 +10,7 @@ use Rattle.overlay_pages.specs.Changes.{brought, is_writable, with_brought, writ
 use Rattle.overlay_memory.specs.PageLaws.{held_there}
 use Rattle.overlay_memory.specs.Pieces.{AreBeside}
 use Rattle.overlay_memory.proofs.Joining.{joined_has, with_own_line}
-use Rattle.overlay_memory.specs.StateMemory.{alone_kept, base_kept, beside_both, beside_put, beside_same, memory_kept, writable_at, writable_same, writes_same}
+use Rattle.overlay_memory.specs.StateMemory.{alone_kept, base_kept, beside_put, beside_same, memory_kept, writable_at, writable_same, writes_same}
 use Rattle.space_maps.specs.Books.{books_put_page}
 use Rattle.space_maps.specs.Laws.{changed_there, page_put_beside, page_put_here}
 use Rattle.space_maps.specs.Spaces.{page_in, put_page, space_in, altered_page}

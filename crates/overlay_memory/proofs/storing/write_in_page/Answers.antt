@@ -1,7 +1,6 @@
 use Rattle.std.proofs.Common.{ap, length, arith}
 use Rattle.std.specs.Prelude.{Err, is_some}
 use Rattle.ovl_io.specs.Permissions.{writable}
-use Rattle.overlay_pages.specs.View.{state_of}
 use Rattle.overlay_memory.proofs.InOne.{in_one, one_needs}
 use Rattle.overlay_memory.proofs.Pieced.{permitted, reads_of}
 use Rattle.overlay_memory.proofs.Stored.{full_store, refused_store}
