@@ -26,7 +26,7 @@ use Rattle.overlay_pages.specs.Changes.{HasShareRoom, limit_of, shared_page, uni
 use Rattle.overlay_pages.specs.Calls.{AwaitsLike, IsNextPage, entries_in}
 use Rattle.overlay_memory.specs.PageLaws.{has_page, some_is}
 use Rattle.overlay_memory.specs.Pieces.{emptied_space}
-use Rattle.overlay_memory.specs.Room.{FitsAfter, units_after}
+use Rattle.overlay_memory.specs.Room.{FitsAfter, event_units}
 use Rattle.overlay_memory.specs.StateMemory.{entries_at}
 use Rattle.overlay_memory.specs.Walked.{walked_all, walked_one}
 use Rattle.fork_checkpoint.specs.Parts.{low_part, low_part_absent, low_part_all, low_part_at, low_part_more, low_part_none, high_part, high_part_all, high_part_less, high_part_none, high_part_some, high_part_there, sum_low_part, viewed_low_part}
@@ -93,7 +93,7 @@ put_same v s there = λ i. record { spaces = insert_kept v.spaces s (space_in v 
 
 -- the units after a copy, and those of a part of it
 pub copy_units : (v : State) (from to : ℕ) → (from ≡ to → ⊥)
-    → units_after (Copy from to) v ≡ units (remove (books v) to) + class_sum (values (pages_of (books v) from))
+    → event_units (Copy from to) v ≡ units (remove (books v) to) + class_sum (values (pages_of (books v) from))
 copy_units v from to differs = units_copied (books v) from to differs
 
 part_units : (v : State) (from to end : ℕ) → (from ≡ to → ⊥)
@@ -108,7 +108,7 @@ part_units v from to end differs =
     in_part : (r : ℕ) (y : Holding) → get (low_part (pages_of (books v) from) end) r ≡ Some y → get (pages_of (books v) from) r ≡ Some y
     in_part r y at = whole (nat_lt r end) (get (pages_of (books v) from) r) y (sym (low_part_at (pages_of (books v) from) end r) ∙ at)
 
-pub part_fewer : (v : State) (from to end : ℕ) → (from ≡ to → ⊥) → units (insert (books v) to (low_part (pages_of (books v) from) end)) ≤ units_after (Copy from to) v
+pub part_fewer : (v : State) (from to end : ℕ) → (from ≡ to → ⊥) → units (insert (books v) to (low_part (pages_of (books v) from) end)) ≤ event_units (Copy from to) v
 unfolding class_sum
 part_fewer v from to end differs =
     let all = copy_units v from to differs in
@@ -284,7 +284,7 @@ two_spaces v from to there absent same = let no = sym there ∙ ap (holds_space 
 -- The units that the code finds are those after it: of a fork, with those of now, and of a restore, with those without the space's
 -- own pages.
 pub needed_is : (v : State) (from to n kept : ℕ) → holds_space v from ≡ true → holds_space v to ≡ false → kept ≡ units_of v → n ≡ with_copies kept v from
-    → n ≡ units_after (Copy from to) v
+    → n ≡ event_units (Copy from to) v
 needed_is v from to n kept there absent kept_is is =
     let after = copy_units v from to (two_spaces v from to there absent) in
     let same = ap units (remove_absent (books v) to (none (get (books v) to) (books_spaces held_page v to ∙ absent))) in
@@ -298,8 +298,8 @@ pub fits_before : (v : State) (from to n kept : ℕ) → holds_space v from ≡ 
     → n ≤ limit_of v → FitsAfter (Copy from to) v
 fits_before v from to n kept there absent kept_is is le = let needed = needed_is v from to n kept there absent kept_is is in omega (arith, needed, le)
 
-pub restored_units : (v : State) (from to n left : ℕ) → (from ≡ to → ⊥) → left ≡ units_after (Drop to) v → n ≡ with_copies left v from
-    → n ≡ units_after (Copy from to) v
+pub restored_units : (v : State) (from to n left : ℕ) → (from ≡ to → ⊥) → left ≡ event_units (Drop to) v → n ≡ with_copies left v from
+    → n ≡ event_units (Copy from to) v
 restored_units v from to n left differs left_is is = is ∙ ap (λ k. with_copies k v from) left_is ∙ sym (copy_units v from to differs)
 
 -- what a copy makes

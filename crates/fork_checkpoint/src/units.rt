@@ -5,7 +5,7 @@ ghost use Rattle.sizes.specs.declared.TheConstants.{FRAME_UNITS, PAGE_END};
 ghost use Rattle.ledger.specs.Events.{Copy, Drop};
 ghost use Rattle.overlay_pages.specs.Changes.{limit_of};
 ghost use Rattle.overlay_memory.specs.View.{NoneAwaits, state_of};
-ghost use Rattle.overlay_memory.specs.Room.{class_at, units_after};
+ghost use Rattle.overlay_memory.specs.Room.{class_at, event_units};
 ghost use Rattle.space_maps.specs.Spaces.{holds_space, page_in};
 ghost use Rattle.fork_checkpoint.specs.Copied.{ArePagesLow, page_units, with_copies};
 
@@ -58,7 +58,7 @@ fn without_page(mem: &OverlayMemory, space: u16, page: u64, units: u32) -> u32
 fn units_without(mem: &OverlayMemory, space: u16) -> u32
     requires there { holds_space (state_of mem.now) space ≡ true }
     requires none_awaits { NoneAwaits (state_of mem.now) space }
-    ensures sum { result ≡ units_after (Drop space) (state_of mem.now) }
+    ensures sum { result ≡ event_units (Drop space) (state_of mem.now) }
     ensures few { result ≤ limit_of (state_of mem.now) }
 {
     mem.see_apart(space);
@@ -83,7 +83,7 @@ pub(crate) fn units_restored(mem: &OverlayMemory, saved: u16, into: u16) -> u32
     requires saved_there { holds_space (state_of mem.now) saved ≡ true }
     requires there { holds_space (state_of mem.now) into ≡ true }
     requires none_awaits { NoneAwaits (state_of mem.now) into }
-    ensures sum { result ≡ units_after (Copy saved into) (state_of mem.now) }
+    ensures sum { result ≡ event_units (Copy saved into) (state_of mem.now) }
     ensures low { ArePagesLow (state_of mem.now) saved }
 {
     let left = units_without(mem, into);

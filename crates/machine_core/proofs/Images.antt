@@ -22,7 +22,7 @@ use Rattle.space_maps.specs.Books.{books_page, books_spaces}
 use Rattle.space_maps.specs.Laws.{page_of}
 use Rattle.space_maps.specs.Spaces.{bare_space, holds_space, page_in, space_in}
 use Rattle.machine_core.specs.Load.{stack_page, stack_pages, stored_pages, zero_content}
-use Rattle.machine_core.specs.Loading.{AreZeros, HasAdded, HasImage, HasStack, IsOpen, IsReady, is_one_of, none_listed, listed_at}
+use Rattle.machine_core.specs.Loading.{AreZeroPages, HasAdded, HasImage, HasStack, HasOpened, IsReady, is_one_of, none_listed, listed_at}
 use Rattle.machine_core.proofs.Adding.{added_none, unstored_page, zeros_added}
 use Rattle.machine_core.proofs.Marks.{units_so_far}
 
@@ -167,7 +167,7 @@ take_run xs i from (suc n) fits up =
 
 module _ (file : List ℕ) (p : ℕ) (before now : State) (items : List ImagePage) (at n : ℕ) (taken : file_refusal file ≡ None) (there : holds_space before p ≡ true)
     (bare : space_in before p ≡ bare_space) (same : items ≡ map (listed_page file) (image_pages file))
-    (so_far : HasAdded before now p (image_page file) (is_stored file) (take at (image_pages file))) (zeros : AreZeros items at n) where
+    (so_far : HasAdded before now p (image_page file) (is_stored file) (take at (image_pages file))) (zeros : AreZeroPages items at n) where
   abbrev first : ImagePage
   first = listed_at items at
 
@@ -231,7 +231,7 @@ module _ (file : List ℕ) (p : ℕ) (before now : State) (items : List ImagePag
 
 -- The stack.
 
-module _ (p : ℕ) (before new : State) (there : IsOpen p before before) (absent : (q : ℕ) → 67108848 ≤ q → page_in before p q ≡ None) where
+module _ (p : ℕ) (before new : State) (there : HasOpened p before before) (absent : (q : ℕ) → 67108848 ≤ q → page_in before p q ≡ None) where
   pub stack_added : (perms : Perms) → perms.0 ≡ 6 → new ≡ with_zeros before p 67108848 16 (record { perms = perms; frame = before.zero_frame }) → HasStack p before new
   unfolding stack_pages
   stack_added perms may is =

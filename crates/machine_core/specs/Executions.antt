@@ -62,7 +62,7 @@ abbrev pub after_steps : ℕ → Executions → Executions
 after_steps k others = record others { steps = k + others.steps }
 
 -- the last one of all, up to the numbers of origins, and how many were steps
-pub record IsLast (all : Executions) (k : ℕ) (o : Outcome) (after : Guest) : Type 0 where
+pub record EndsWith (all : Executions) (k : ℕ) (o : Outcome) (after : Guest) : Type 0 where
   pub steps : k ≡ all.steps
   pub outcome_is : o ≡ all.outcome
   pub after_is : AreLikeGuests after all.after
@@ -81,9 +81,9 @@ steps_in (Full units limit) = 0
 -- What the first of them come to, up to one behind which it isn't known yet whether pc is at a stop, or to one that is no step.
 abbrev pub Comes : Addresses → ℕ → ℕ → Guest → ℕ → Outcome → Guest → Type 0
 Comes stops p most guest n Stepped next = (n ≤ most) × AreLikeExecutions (after_steps n (resumed stops p (most - n) next)) (executions stops p most guest)
-Comes stops p most guest n Asked next = (n ≤ most) × IsLast (executions stops p most guest) n Asked next
-Comes stops p most guest n (Fault kind address) next = (n ≤ most) × IsLast (executions stops p most guest) n (Fault kind address) next
-Comes stops p most guest n (Full units limit) next = (n ≤ most) × IsLast (executions stops p most guest) n (Full units limit) next
+Comes stops p most guest n Asked next = (n ≤ most) × EndsWith (executions stops p most guest) n Asked next
+Comes stops p most guest n (Fault kind address) next = (n ≤ most) × EndsWith (executions stops p most guest) n (Fault kind address) next
+Comes stops p most guest n (Full units limit) next = (n ≤ most) × EndsWith (executions stops p most guest) n (Full units limit) next
 
 -- of a process that may be there: how many were steps, and what came of the last one
 abbrev pub steps_of : Addresses → ℕ → ℕ → Option Guest → ℕ

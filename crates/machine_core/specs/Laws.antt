@@ -166,6 +166,11 @@ guests_chain a b c h k = record {
   translations = h.translations ∙ k.translations;
 }
 
+-- with another process, another ledger and other translations; all that is fixed stays
+like_moved : {a b : Guest} {x y : Process} {k l : Ledger} {t u : BareTranslations} → AreLikeGuests a b → x ≡ y → AreAlike k l → t ≡ u
+    → AreLikeGuests (record a { process = x; ledger = k; translations = t }) (record b { process = y; ledger = l; translations = u })
+like_moved like process ledger translations = record { process = process; ledger = ledger; frames = like.frames; translations = translations }
+
 -- the accesses that they try
 like_tried : (p : ℕ) (a b : Guest) → AreLikeGuests a b → translations_executed p a ≡ translations_executed p b
 unfolding translations_executed
@@ -186,7 +191,7 @@ like_requested p a b like =
     ∙ ap (λ t. counted p b.process.memory (request_of p b.process).accesses t) like.translations
 
 like_refused : (p : ℕ) (a b : Guest) → AreLikeGuests a b → AreLikeGuests (guest_refused p a) (guest_refused p b)
-like_refused p a b like = record { process = like.process; ledger = like.ledger; frames = like.frames; translations = like_tried p a b like }
+like_refused p a b like = like_moved like like.process like.ledger (like_tried p a b like)
 
 alike_stored : (p : ℕ) (speculating : Bool) (store : Option (ℕ × ℕ)) (k l : Ledger) → AreAlike k l → AreAlike (ledger_stored p speculating store k) (ledger_stored p speculating store l)
 alike_stored p speculating None k l alike = alike
@@ -232,22 +237,17 @@ pub like_executed : (p : ℕ) (a b : Guest) → AreLikeGuests a b → AreLikeGue
 like_executed p a b like =
     like_cond (is_full p a) (is_full p b) (guest_refused p a) (guest_refused p b) (guest_executed p a) (guest_executed p b) (like_full p a b like)
     (like_refused p a b like)
-    (record { process = ap process_executed like.process; ledger = like_ledger p a b like; frames = like.frames; translations = like_tried p a b like })
+    (like_moved like (ap process_executed like.process) (like_ledger p a b like) (like_tried p a b like))
 
 pub like_after : (p : ℕ) (a b : Guest) → AreLikeGuests a b → AreLikeGuests (guest_after p a) (guest_after p b)
 like_after p a b like =
     like_cond (is_full p a) (is_full p b) (guest_refused p a) (guest_refused p b) (guest_stepped p a) (guest_stepped p b) (like_full p a b like)
     (like_refused p a b like)
-    (record { process = ap (process_after p) like.process; ledger = like_ledger p a b like; frames = like.frames; translations = like_stepped p a b like })
+    (like_moved like (ap (process_after p) like.process) (like_ledger p a b like) (like_stepped p a b like))
 
 pub like_answered : (p : ℕ) (a b : Guest) → AreLikeGuests a b → AreLikeGuests (guest_answered p a) (guest_answered p b)
 like_answered p a b like =
-    record {
-      process = ap (λ (process : Process). after_request process.memory process (request_of p process)) like.process;
-      ledger = like.ledger;
-      frames = like.frames;
-      translations = like_requested p a b like;
-    }
+    like_moved like (ap (λ (process : Process). after_request process.memory process (request_of p process)) like.process) like.ledger (like_requested p a b like)
 
 -- Executions one after the other that are like each other.
 

@@ -190,10 +190,8 @@ pub record HaveSpaces (machine : Machine) : Type 0 where
 
 -- the copying machine without a process
 abbrev pub without_process : ℕ → Wholes → Wholes
-without_process p state =
-    record state { processes = remove state.processes p }
+without_process p state = record state { processes = remove state.processes p }
 
 -- without the pages of a space in the ledger, and without translations of them
 abbrev pub without_memory : ℕ → Wholes → Wholes
-without_memory p state =
-    record state { ledger = remove state.ledger p; translations = flushed p state.translations }
+without_memory p state = record state { ledger = remove state.ledger p; translations = flushed p state.translations }

@@ -8,7 +8,7 @@ use Rattle.ledger.specs.StoreLaws.{joined_there, store_joins, store_nothing}
 use Rattle.overlay_pages.specs.State.{PageState, State, base_of, books, held_page, memory_of}
 use Rattle.overlay_pages.specs.Changes.{brought, is_writable, with_brought, writes_frame}
 use Rattle.overlay_memory.specs.PageLaws.{held_there}
-use Rattle.overlay_memory.specs.Pieces.{AreBeside}
+use Rattle.overlay_memory.specs.Pieces.{KeepsAllElse}
 use Rattle.overlay_memory.proofs.Joining.{joined_has, with_own_line}
 use Rattle.overlay_memory.specs.StateMemory.{alone_kept, base_kept, beside_put, beside_same, memory_kept, writable_at, writable_same, writes_same}
 use Rattle.space_maps.specs.Books.{books_put_page}
@@ -22,7 +22,7 @@ pub record HasBrought (old new : State) (space : ℕ) (after : Ledger) : Type 0 
   pub memory : memory_of new space ≡ memory_of old space
   pub base : base_of new space ≡ base_of old space
   pub ledger : books new ≡ after
-  pub beside : AreBeside old new space
+  pub beside : KeepsAllElse old new space
 
 pub brought_none : (v : State) (s : ℕ) → HasBrought v v s (books v)
 brought_none v s = record { memory = refl; base = refl; ledger = refl; beside = beside_same v s }

@@ -68,7 +68,7 @@ pub in_one : {v : State} {s address : ℕ} {lines bytes : List ℕ} → IsSome (
 in_one {v = v} {s = s} {address = address} {lines = lines} {bytes = bytes} is some fits under = by_page (page_in v s (address / PAGE_BYTES)) refl is
   where
     by_page : (o : Option PageState) → page_in v s (address / PAGE_BYTES) ≡ o → IsSome o → IsInOne v s address lines bytes
-    by_page None absent no = cc
+    by_page None absent missing = cc
     by_page (Some x) there has = record { page = x; there = there; some = some; fits = fits; under = under }
 
 module _ {v : State} {s address : ℕ} {lines bytes : List ℕ} (it : IsInOne v s address lines bytes) where

@@ -118,7 +118,13 @@ fn put_in_page(
 {
     let page = address / PAGE_BYTES as u64;
     bring_lines(pages, cache, space, page, lines);
-    fill_page(pages, space, page, (address % PAGE_BYTES as u64) as usize, bytes);
+    fill_page(
+        pages,
+        space,
+        page,
+        (address % PAGE_BYTES as u64) as usize,
+        bytes,
+    );
 }
 
 /// Stores bytes, some and all in one page: permission first, then units, then the bytes with their lines.

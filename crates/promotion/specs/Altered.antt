@@ -300,8 +300,8 @@ pub record IsMarked (v w : State) (s : ℕ) (on : Bool) : Type 0 where
   pub frames : w.frames ≡ v.frames
   pub zero_frame : w.zero_frame ≡ v.zero_frame
 
-pub is_marked : (v w : State) (s : ℕ) (on : Bool) → holds_space v s ≡ true → w ≡ put_mark v s on → IsMarked v w s on
-is_marked v w s on there is = subst (λ (u : State). IsMarked v u s on) (sym is) (record {
+pub marked_so : (v w : State) (s : ℕ) (on : Bool) → holds_space v s ≡ true → w ≡ put_mark v s on → IsMarked v w s on
+marked_so v w s on there is = subst (λ (u : State). IsMarked v u s on) (sym is) (record {
   memory = marked_memory v s on;
   base = marked_base v s on;
   ledger = books_marked held_page v s on there;

@@ -7,7 +7,7 @@ ghost use Rattle.overlay_memory.specs.View.{NoneAwaits, state_of};
 ghost use Rattle.overlay_memory.specs.Room.{FitsAfter};
 ghost use Rattle.overlay_memory.specs.Translated.{KeepsOtherTranslations};
 ghost use Rattle.space_maps.specs.Spaces.{holds_space, page_in};
-ghost use Rattle.promotion.specs.Settled.{CanCopyOwn, HasCommittedAlone, HasSettled, IsCopied, NoneAlone, Settles, with_committed};
+ghost use Rattle.promotion.specs.Settled.{CanCopyOwn, HasCommittedAlone, HasSettled, CopiesOwn, NoneAlone, Settles, with_committed};
 
 use crate::units::units_settled;
 use overlay_memory::{OverlayMemory, Shortage};
@@ -48,7 +48,7 @@ fn copy_one(mem: &mut OverlayMemory, space: u16, page: u64)
     requires there { IsSome (page_in (state_of mem.old) space page) }
     requires none_awaits { NoneAwaits (state_of mem.old) space }
     requires fits { CanCopyOwn (state_of mem.old) space page }
-    ensures copied { IsCopied (state_of mem.old) (state_of mem.new) space page }
+    ensures copied { CopiesOwn (state_of mem.old) (state_of mem.new) space page }
     ensures lists { KeepsOtherTranslations space mem.old mem.new }
     ensures low { page < PAGE_END }
 {

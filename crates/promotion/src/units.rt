@@ -5,7 +5,7 @@ ghost use Rattle.sizes.specs.declared.TheConstants.{FRAME_UNITS, PAGE_END};
 ghost use Rattle.ledger.specs.Events.{Settle};
 ghost use Rattle.overlay_pages.specs.Changes.{limit_of};
 ghost use Rattle.overlay_memory.specs.View.{state_of};
-ghost use Rattle.overlay_memory.specs.Room.{class_at, units_after};
+ghost use Rattle.overlay_memory.specs.Room.{class_at, event_units};
 ghost use Rattle.space_maps.specs.Spaces.{holds_space, page_in};
 ghost use Rattle.promotion.specs.Counted.{AreUnitsWith};
 
@@ -33,7 +33,7 @@ fn with_settled(mem: &OverlayMemory, space: u16, page: u64, units: u32) -> u32
 /// The units after each page of a space is settled. Costs a few look-ups for each page with own lines.
 pub(crate) fn units_settled(mem: &OverlayMemory, space: u16) -> u32
     requires there { holds_space (state_of mem.now) space ≡ true }
-    ensures { result ≡ units_after (Settle space) (state_of mem.now) }
+    ensures { result ≡ event_units (Settle space) (state_of mem.now) }
 {
     mem.see_apart(space);
     let mut units = mem.units();
