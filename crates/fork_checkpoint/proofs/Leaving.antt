@@ -19,7 +19,7 @@ use Rattle.overlay_pages.specs.Changes.{limit_of, units_of}
 use Rattle.overlay_memory.specs.ApartLaws.{AreOriginsApart, ArePagesApart, origins_apart}
 use Rattle.overlay_memory.specs.CountLaws.{class_is, class_there}
 use Rattle.overlay_memory.specs.PageLaws.{HasPage, has_page, held_there, some_is}
-use Rattle.overlay_memory.specs.Room.{class_at, units_after}
+use Rattle.overlay_memory.specs.Room.{class_at, event_units}
 use Rattle.overlay_memory.specs.Walked.{one_further, walked_all}
 use Rattle.space_maps.specs.Books.{books_page, books_spaces}
 use Rattle.space_maps.specs.Spaces.{holds_space, page_in}
@@ -208,7 +208,7 @@ module _ (v : State) (space n from page : ℕ) (apart : ArePagesApart v space) (
       let one = leaving_more v space n (page + k) (page + k) apart before (is_there k (zeros k (omega arith))) n (omega (arith, none)) (omega (arith, low)) in
       subst (IsLeaving v space n) (omega arith) one
 
-pub leaving_all : (v : State) (space n from : ℕ) → IsLeaving v space n from → IsNextPage v space from None → n ≡ units_after (Drop space) v
+pub leaving_all : (v : State) (space n from : ℕ) → IsLeaving v space n from → IsNextPage v space from None → n ≡ event_units (Drop space) v
 leaving_all v space n from h none = h.sum ∙ left_all (books v) space from (λ q some. walked_all v space from none q (in_state v space q some))
 
 -- The units without a page, by its own lines and whether it is alone.

@@ -16,7 +16,8 @@ use Rattle.overlay_pages.specs.Calls.{AreShared, AwaitBare, AwaitsLike, IsNextPa
 use Rattle.overlay_pages.specs.Calls.AreShared.{Still, Then}
 use Rattle.fork_checkpoint.specs.Parts.{high_part_past, high_part_some, high_part_there, low_part_past}
 use Rattle.fork_checkpoint.specs.Copied.{ArePagesLow, with_copy}
-use Rattle.fork_checkpoint.proofs.Shares.{HasStep, entry_at, entry_some, from_stays, part_space, partly, put_beside, share_step, shared_all, to_waits}
+use Rattle.overlay_memory.specs.StateMemory.{entries_at}
+use Rattle.fork_checkpoint.proofs.Shares.{HasStep, entry_some, from_stays, part_space, partly, put_beside, share_step, shared_all, to_waits}
 use Rattle.overlay_memory.specs.PageLaws.{own_there}
 
 -- Pages without own lines are shared, as far as one.
@@ -24,7 +25,7 @@ use Rattle.overlay_memory.specs.PageLaws.{own_there}
 module _ (v : State) (from to : ℕ) (differs : from ≡ to → ⊥) where
   -- what awaits
   waits_at : (end q : ℕ) → end ≤ q → get (space_in (partly v from to end) to).awaiting q ≡ option_map (λ (x : PageState). x.entry) (page_in v from q)
-  waits_at end q le = ap (λ (m : Pages). get m q) (to_waits v from to differs end) ∙ high_part_there (entries_in v from) end q le ∙ entry_at v from q
+  waits_at end q le = ap (λ (m : Pages). get m q) (to_waits v from to differs end) ∙ high_part_there (entries_in v from) end q le ∙ entries_at v from q
 
   waits_from : (end q : ℕ) → IsSome (get (space_in (partly v from to end) to).awaiting q) → (end ≤ q) × (is_some (page_in v from q) ≡ true)
   waits_from end q some =
@@ -72,7 +73,7 @@ module _ (v : State) (from to : ℕ) (differs : from ≡ to → ⊥) where
   unfolding partly
   past end until le none = ap (put_space v to) (λ i. record {
     pages = low_part_past (space_in v from).pages end until le (λ q ge lt. sym (page_of v from q) ∙ none q ge lt) i;
-    awaiting = high_part_past (entries_in v from) end until le (λ q ge lt. entry_at v from q ∙ ap (option_map (λ (x : PageState). x.entry)) (none q ge lt)) i;
+    awaiting = high_part_past (entries_in v from) end until le (λ q ge lt. entries_at v from q ∙ ap (option_map (λ (x : PageState). x.entry)) (none q ge lt)) i;
     speculating = (space_in v to).speculating;
   })
 

@@ -6,7 +6,7 @@ use Rattle.std.specs.FinMap.{empty, get, insert, remove, values}
 use Rattle.sizes.specs.declared.TheConstants.{PAGE_END}
 use Rattle.number_maps.specs.Keys.{alike, by_key, get_other, get_same, insert_kept, insert_over, removed_other, removed_same}
 use Rattle.number_maps.specs.Values.{remove_absent}
-use Rattle.number_maps.specs.Views.{get_viewed, viewed}
+use Rattle.number_maps.specs.Views.{viewed}
 use Rattle.page_table.specs.Table.{Pages}
 use Rattle.page_table.specs.declared.entry.PageEntry.{PageEntry}
 use Rattle.space_maps.specs.Books.{books_page, books_pages, books_put, books_put_shared, books_spaces}
@@ -26,7 +26,8 @@ use Rattle.overlay_pages.specs.Changes.{HasShareRoom, limit_of, shared_page, uni
 use Rattle.overlay_pages.specs.Calls.{AwaitsLike, IsNextPage, entries_in}
 use Rattle.overlay_memory.specs.PageLaws.{has_page, some_is}
 use Rattle.overlay_memory.specs.Pieces.{emptied_space}
-use Rattle.overlay_memory.specs.Room.{FitsAfter, units_after}
+use Rattle.overlay_memory.specs.Room.{FitsAfter, event_units}
+use Rattle.overlay_memory.specs.StateMemory.{entries_at}
 use Rattle.overlay_memory.specs.Walked.{walked_all, walked_one}
 use Rattle.fork_checkpoint.specs.Parts.{low_part, low_part_absent, low_part_all, low_part_at, low_part_more, low_part_none, high_part, high_part_all, high_part_less, high_part_none, high_part_some, high_part_there, sum_low_part, viewed_low_part}
 use Rattle.fork_checkpoint.specs.Copied.{ArePagesLow, CanHave, HasCopied, with_copies, with_copy}
@@ -71,17 +72,12 @@ cut_put v s x absent = λ i. record { spaces = gone i; frames = v.frames; zero_f
         (λ same. removed_same (insert v.spaces s x) s q same ∙ sym (none (get v.spaces s) absent) ∙ ap (get v.spaces) (sym same))
         (λ other. removed_other (insert v.spaces s x) s q other ∙ get_other v.spaces s q x other))
 
--- the entries of a space's pages
-pub entry_at : (v : State) (s r : ℕ) → get (entries_in v s) r ≡ option_map (λ (x : PageState). x.entry) (page_in v s r)
-unfolding entries_in
-entry_at v s r = get_viewed (λ _ (x : PageState). x.entry) (space_in v s).pages r ∙ ap (option_map (λ (x : PageState). x.entry)) (sym (page_of v s r))
-
 entries_same : (v w : State) (s : ℕ) → space_in v s ≡ space_in w s → entries_in v s ≡ entries_in w s
 unfolding entries_in
 entries_same v w s e = ap (λ (x : SpaceState). viewed (λ _ (y : PageState). y.entry) x.pages) e
 
 pub entry_some : (v : State) (s r : ℕ) → is_some (get (entries_in v s) r) ≡ true → is_some (page_in v s r) ≡ true
-entry_some v s r some = sym (at (page_in v s r)) ∙ ap is_some (sym (entry_at v s r)) ∙ some
+entry_some v s r some = sym (at (page_in v s r)) ∙ ap is_some (sym (entries_at v s r)) ∙ some
   where
     at : (o : Option PageState) → is_some (option_map (λ (x : PageState). x.entry) o) ≡ is_some o
     at None = refl
@@ -97,7 +93,7 @@ put_same v s there = λ i. record { spaces = insert_kept v.spaces s (space_in v 
 
 -- the units after a copy, and those of a part of it
 pub copy_units : (v : State) (from to : ℕ) → (from ≡ to → ⊥)
-    → units_after (Copy from to) v ≡ units (remove (books v) to) + class_sum (values (pages_of (books v) from))
+    → event_units (Copy from to) v ≡ units (remove (books v) to) + class_sum (values (pages_of (books v) from))
 copy_units v from to differs = units_copied (books v) from to differs
 
 part_units : (v : State) (from to end : ℕ) → (from ≡ to → ⊥)
@@ -112,7 +108,7 @@ part_units v from to end differs =
     in_part : (r : ℕ) (y : Holding) → get (low_part (pages_of (books v) from) end) r ≡ Some y → get (pages_of (books v) from) r ≡ Some y
     in_part r y at = whole (nat_lt r end) (get (pages_of (books v) from) r) y (sym (low_part_at (pages_of (books v) from) end r) ∙ at)
 
-pub part_fewer : (v : State) (from to end : ℕ) → (from ≡ to → ⊥) → units (insert (books v) to (low_part (pages_of (books v) from) end)) ≤ units_after (Copy from to) v
+pub part_fewer : (v : State) (from to end : ℕ) → (from ≡ to → ⊥) → units (insert (books v) to (low_part (pages_of (books v) from) end)) ≤ event_units (Copy from to) v
 unfolding class_sum
 part_fewer v from to end differs =
     let all = copy_units v from to differs in
@@ -187,7 +183,7 @@ module _ (v : State) (from to : ℕ) (differs : from ≡ to → ⊥) where
 
     waits : get (space_in now to).awaiting page ≡ Some x.entry
     waits =
-        ap (λ (m : Pages). get m page) (to_waits end) ∙ high_part_there (entries_in v from) end page next.0 ∙ entry_at v from page ∙ ap (option_map (λ (y : PageState). y.entry)) there
+        ap (λ (m : Pages). get m page) (to_waits end) ∙ high_part_there (entries_in v from) end page next.0 ∙ entries_at v from page ∙ ap (option_map (λ (y : PageState). y.entry)) there
 
     pub is_least : IsLeast (space_in now to).awaiting page
     is_least = record {
@@ -218,7 +214,7 @@ module _ (v : State) (from to : ℕ) (differs : from ≡ to → ⊥) where
     one_more = λ i. record {
       pages = sym (low_part_more (space_in v from).pages end page x (sym (page_of v from page) ∙ there)
           (λ r some. walked_one v from end page next_there r (ap is_some (page_of v from r) ∙ some))) i;
-      awaiting = sym (high_part_less (entries_in v from) end page x.entry (entry_at v from page ∙ ap (option_map (λ (y : PageState). y.entry)) there)
+      awaiting = sym (high_part_less (entries_in v from) end page x.entry (entries_at v from page ∙ ap (option_map (λ (y : PageState). y.entry)) there)
           (λ r some. walked_one v from end page next_there r (entry_some v from r some))) i;
       speculating = (space_in v to).speculating;
     }
@@ -288,7 +284,7 @@ two_spaces v from to there absent same = let no = sym there ∙ ap (holds_space 
 -- The units that the code finds are those after it: of a fork, with those of now, and of a restore, with those without the space's
 -- own pages.
 pub needed_is : (v : State) (from to n kept : ℕ) → holds_space v from ≡ true → holds_space v to ≡ false → kept ≡ units_of v → n ≡ with_copies kept v from
-    → n ≡ units_after (Copy from to) v
+    → n ≡ event_units (Copy from to) v
 needed_is v from to n kept there absent kept_is is =
     let after = copy_units v from to (two_spaces v from to there absent) in
     let same = ap units (remove_absent (books v) to (none (get (books v) to) (books_spaces held_page v to ∙ absent))) in
@@ -302,8 +298,8 @@ pub fits_before : (v : State) (from to n kept : ℕ) → holds_space v from ≡ 
     → n ≤ limit_of v → FitsAfter (Copy from to) v
 fits_before v from to n kept there absent kept_is is le = let needed = needed_is v from to n kept there absent kept_is is in omega (arith, needed, le)
 
-pub restored_units : (v : State) (from to n left : ℕ) → (from ≡ to → ⊥) → left ≡ units_after (Drop to) v → n ≡ with_copies left v from
-    → n ≡ units_after (Copy from to) v
+pub restored_units : (v : State) (from to n left : ℕ) → (from ≡ to → ⊥) → left ≡ event_units (Drop to) v → n ≡ with_copies left v from
+    → n ≡ event_units (Copy from to) v
 restored_units v from to n left differs left_is is = is ∙ ap (λ k. with_copies k v from) left_is ∙ sym (copy_units v from to differs)
 
 -- what a copy makes

@@ -11,7 +11,7 @@ use Rattle.space_ledger.specs.Calls.{NamesOnce}
 use Rattle.overlay_pages.specs.State.{State, base_of, books, memory_of}
 use Rattle.overlay_pages.specs.Calls.{entries_in}
 use Rattle.overlay_memory.specs.View.{TranslatedView, state_of}
-use Rattle.overlay_memory.specs.Room.{FitsAfter, IsFullAt, class_at, units_after}
+use Rattle.overlay_memory.specs.Room.{FitsAfter, IsFullAt, class_at, event_units}
 use Rattle.overlay_memory.specs.declared.error.SpaceError.{SpaceError}
 use Rattle.overlay_memory.specs.declared.error.SpaceError.TheVariants.{Full, Memory}
 
@@ -34,7 +34,7 @@ pub record HasCopied (old new : State) (from to : ℕ) : Type 0 where
 -- before, but that segments may have moved.
 abbrev pub Copies : TranslatedView → TranslatedView → ℕ → ℕ → Result (Unit {0}) SpaceError → Type 0
 Copies old new from to (Ok done) = FitsAfter (Copy from to) (state_of old) × HasCopied (state_of old) (state_of new) from to
-Copies old new from to (Err (Full needed limit)) = IsFullAt old new (units_after (Copy from to) (state_of old)) needed limit
+Copies old new from to (Err (Full needed limit)) = IsFullAt old new (event_units (Copy from to) (state_of old)) needed limit
 Copies old new from to (Err Memory) = FitsAfter (Copy from to) (state_of old) × (state_of new ≡ state_of old)
 
 -- On the way.

@@ -5,8 +5,7 @@ ghost use Rattle.sizes.specs.declared.TheConstants.{FRAME_UNITS, PAGE_END};
 ghost use Rattle.ledger.specs.Events.{Copy, Drop};
 ghost use Rattle.overlay_pages.specs.Changes.{limit_of};
 ghost use Rattle.overlay_memory.specs.View.{NoneAwaits, state_of};
-ghost use Rattle.overlay_memory.specs.ApartLaws.{ArePagesApart};
-ghost use Rattle.overlay_memory.specs.Room.{class_at, units_after};
+ghost use Rattle.overlay_memory.specs.Room.{class_at, event_units};
 ghost use Rattle.space_maps.specs.Spaces.{holds_space, page_in};
 ghost use Rattle.fork_checkpoint.specs.Copied.{ArePagesLow, page_units, with_copies};
 
@@ -40,13 +39,6 @@ pub(crate) fn units_copied(mem: &OverlayMemory, space: u16, kept: u32) -> u32
     units
 }
 
-// No two pages of a space have one frame, but for the zero frame.
-fn see_apart(mem: &OverlayMemory, space: u16)
-    ensures { ArePagesApart (state_of mem.now) space }
-{
-    let _pages = mem.pages(space);
-}
-
 // The units without one more page of a space: its segment goes and, where it is alone, its frame.
 fn without_page(mem: &OverlayMemory, space: u16, page: u64, units: u32) -> u32
     requires there { IsSome (page_in (state_of mem.now) space page) }
@@ -66,10 +58,10 @@ fn without_page(mem: &OverlayMemory, space: u16, page: u64, units: u32) -> u32
 fn units_without(mem: &OverlayMemory, space: u16) -> u32
     requires there { holds_space (state_of mem.now) space ≡ true }
     requires none_awaits { NoneAwaits (state_of mem.now) space }
-    ensures sum { result ≡ units_after (Drop space) (state_of mem.now) }
+    ensures sum { result ≡ event_units (Drop space) (state_of mem.now) }
     ensures few { result ≤ limit_of (state_of mem.now) }
 {
-    see_apart(mem, space);
+    mem.see_apart(space);
     let mut units = mem.units();
     let mut from = 0;
     'leaving: while let Some(page) = mem.next_page(space, from) {
@@ -91,7 +83,7 @@ pub(crate) fn units_restored(mem: &OverlayMemory, saved: u16, into: u16) -> u32
     requires saved_there { holds_space (state_of mem.now) saved ≡ true }
     requires there { holds_space (state_of mem.now) into ≡ true }
     requires none_awaits { NoneAwaits (state_of mem.now) into }
-    ensures sum { result ≡ units_after (Copy saved into) (state_of mem.now) }
+    ensures sum { result ≡ event_units (Copy saved into) (state_of mem.now) }
     ensures low { ArePagesLow (state_of mem.now) saved }
 {
     let left = units_without(mem, into);

@@ -31,7 +31,7 @@ use Rattle.overlay_memory.specs.View.{TranslatedView, translations_of}
 use Rattle.translation_cache.specs.Translations.{flushed}
 use Rattle.std.specs.declared.alloc.AllocError.{AllocError}
 use Rattle.std.specs.Prelude.{Result, Ok, Err, OnOk, OnErr}
-use Rattle.machine_core.specs.Loading.{IsUnseen, HasAdded, IsAdded, IsOpen, is_one_of, one_loaded}
+use Rattle.machine_core.specs.Loading.{IsUnseen, HasAdded, IsAdded, HasOpened, is_one_of, one_loaded}
 use Rattle.machine_core.specs.PageLines.{lines_joined, page_length_is, zero_bytes_are}
 
 -- Pages added to a space, one after the other.
@@ -132,7 +132,7 @@ pages_with s p page x absent =
     ∙ len-insert nat_cmp_total (space_in s p).pages page x
     ∙ ap (λ (o : Option PageState). cond (is_some o) (len (space_in s p).pages) (len (space_in s p).pages + 1)) (sym (page_of s p page) ∙ absent)
 
-open_with : (p : ℕ) (before now new : State) (page : ℕ) (x : PageState) → IsOpen p before now → new ≡ put_page now p page x → IsOpen p before new
+open_with : (p : ℕ) (before now new : State) (page : ℕ) (x : PageState) → HasOpened p before now → new ≡ put_page now p page x → HasOpened p before new
 unfolding put_page put_space
 open_with p before now new page x open_now is = record {
   there = ap (λ (s : State). holds_space s p) is ∙ ap is_some (get_same now.spaces p p _ refl);
@@ -143,10 +143,10 @@ open_with p before now new page x open_now is = record {
   zero_frame = ap (λ (s : State). s.zero_frame) is ∙ open_now.zero_frame;
 }
 
-pub open_itself : (p : ℕ) (s : State) → holds_space s p ≡ true → (space_in s p).awaiting ≡ empty → IsOpen p s s
+pub open_itself : (p : ℕ) (s : State) → holds_space s p ≡ true → (space_in s p).awaiting ≡ empty → HasOpened p s s
 open_itself p s there none_awaits = record { there = there; none_awaits = none_awaits; mark = refl; others = λ q other. refl; frames = refl; zero_frame = refl }
 
-pub open_chain : (p : ℕ) (a b c : State) → IsOpen p a b → IsOpen p b c → IsOpen p a c
+pub open_chain : (p : ℕ) (a b c : State) → HasOpened p a b → HasOpened p b c → HasOpened p a c
 open_chain p a b c h k = record {
   there = k.there;
   none_awaits = k.none_awaits;
@@ -157,7 +157,7 @@ open_chain p a b c h k = record {
 }
 
 -- none yet, and one more
-pub added_none : (p : ℕ) (s : State) (content : ℕ → Page) (mark : ℕ → Bool) → IsOpen p s s → HasAdded s s p content mark []
+pub added_none : (p : ℕ) (s : State) (content : ℕ → Page) (mark : ℕ → Bool) → HasOpened p s s → HasAdded s s p content mark []
 added_none p s content mark h = record { memory = λ q. refl; count = omega arith; ledger = λ a alike. alike; rest = h }
 
 module _ (before now new : State) (p : ℕ) (content : ℕ → Page) (mark : ℕ → Bool) (pages : List ℕ) (page : ℕ) where
@@ -201,10 +201,10 @@ module _ (before : State) (p : ℕ) (content : ℕ → Page) (mark : ℕ → Boo
       ∙ sym (ap (page_in now p) (up k)) ∙ absent (suc k) (omega (arith, below))))
 
 -- pages were added, or nothing was done
-pub open_either : (result : Result (Unit {0}) AllocError) (before new : State) (p : ℕ) (content : ℕ → Page) (mark : ℕ → Bool) (pages : List ℕ) → IsOpen p before before
-    → OnOk result (HasAdded before new p content mark pages) → OnErr result (new ≡ before) → IsOpen p before new
+pub open_either : (result : Result (Unit {0}) AllocError) (before new : State) (p : ℕ) (content : ℕ → Page) (mark : ℕ → Bool) (pages : List ℕ) → HasOpened p before before
+    → OnOk result (HasAdded before new p content mark pages) → OnErr result (new ≡ before) → HasOpened p before new
 open_either (Ok done) before new p content mark pages itself added kept = added.rest
-open_either (Err error) before new p content mark pages itself added kept = subst (IsOpen p before) (sym kept) itself
+open_either (Err error) before new p content mark pages itself added kept = subst (HasOpened p before) (sym kept) itself
 
 -- what is flushed of a space of which nothing was translated
 pub zero_lists : (result : Result (Unit {0}) AllocError) (p : ℕ) (old new : TranslatedView)

@@ -1,10 +1,7 @@
-use Rattle.std.proofs.Common.{◌≡◌, ℕ, ◌+◌, ◌%◌, ◌<◌, ◌==◌, cond, [], Option, Some, None, sym, ap, subst, ◌∙◌, refl, arith}
+use Rattle.std.proofs.Common.{◌≡◌, ℕ, ◌+◌, ◌%◌, ◌==◌, cond, [], Option, Some, None, sym, ap, subst, ◌∙◌, refl}
 use Rattle.ovl_io.specs.Memory.{Memory, denied_at}
 use Rattle.ovl_io.specs.declared.process_state.FaultKind.TheVariants as kind
-use Rattle.rv_decode.specs.Encodable.{HasRegisters, IsEncodable}
 use Rattle.rv_decode.specs.Meaning.{meaning}
-use Rattle.rv_decode.specs.declared.names.Format.{Format}
-use Rattle.rv_decode.specs.declared.names.Format.TheVariants.{R, I, S, B, U, J, H6, H5, N}
 use Rattle.rv_decode.specs.declared.instruction.Instr.{Instr}
 use Rattle.rv_execute.specs.Calls.{Fetch, fetch_at, word_at}
 use Rattle.rv_execute.specs.Execution.{Execution, Executes, Faults, action_on, after, decoded, effect, execution, fault, fetch_effect, full_in}

@@ -27,7 +27,7 @@ use Rattle.translation_cache.specs.Counted.{counted}
 use Rattle.translation_cache.specs.CountedLaws.{IsFront, access_in_page, counted_one, front_beside, translated_front}
 use Rattle.translation_cache.specs.Translations.{with_hits}
 use Rattle.translation_cache.specs.declared.TheConstants.{SETS}
-use Rattle.machine_core.specs.Held.{IsHeld, IsInHand, IsTaken, IsTurned, IsWordAt}
+use Rattle.machine_core.specs.Held.{IsLineHeld, IsInHand, IsReached, IsTurned, IsWordAt}
 use Rattle.machine_core.specs.Access.{lists_lent, spaces_lent}
 use Rattle.machine_core.specs.declared.hand.Hand.{Hand}
 use Rattle.machine_core.specs.declared.view.View.{View}
@@ -53,7 +53,7 @@ code_moved view space a b line same code =
     }
 
 -- An address of it may be fetched, and its word stands decoded there.
-module _ (lines : List (List ℕ)) (view : View) (start pc at : ℕ) (held : IsHeld lines view.memory.now view.space start)
+module _ (lines : List (List ℕ)) (view : View) (start pc at : ℕ) (held : IsLineHeld lines view.memory.now view.space start)
     (here : pc ≡ start + 4 * at) (inside : at < LINE_WORDS) where
   pub page_is : pc / PAGE_BYTES ≡ start / PAGE_BYTES
   page_is = let whole = held.whole in omega (arith, here, inside, whole)
@@ -89,7 +89,7 @@ module _ (old new : List (List ℕ)) (memory : TranslatedView) (space : ℕ) (ha
   abbrev start_of : ℕ → ℕ
   start_of k = PAGE_BYTES * (pc / PAGE_BYTES) + LINE_BYTES * k
 
-  held_own : IsHeld new memory space (start_of own)
+  held_own : IsLineHeld new memory space (start_of own)
   held_own =
       let number : pc / LINE_BYTES ≡ start_of own / LINE_BYTES = omega arith in
       record {
@@ -100,7 +100,7 @@ module _ (old new : List (List ℕ)) (memory : TranslatedView) (space : ℕ) (ha
       }
 
   -- another one, that was there
-  held_still : (k : ℕ) → k < PAGE_LINES → (k ≡ own → ⊥) → IsHeld old memory space (start_of k) → IsHeld new memory space (start_of k)
+  held_still : (k : ℕ) → k < PAGE_LINES → (k ≡ own → ⊥) → IsLineHeld old memory space (start_of k) → IsLineHeld new memory space (start_of k)
   held_still k below other held = record {
     whole = held.whole;
     low = held.low;
@@ -108,19 +108,19 @@ module _ (old new : List (List ℕ)) (memory : TranslatedView) (space : ℕ) (ha
         (sym (others (start_of k / LINE_BYTES % KEPT_LINES) (λ same. other (omega (arith, below, same))))) held.code;
   }
 
-  was_held : (k : ℕ) → k < PAGE_LINES → has_line altered.known k ≡ true → IsHeld old memory space (start_of k)
+  was_held : (k : ℕ) → k < PAGE_LINES → has_line altered.known k ≡ true → IsLineHeld old memory space (start_of k)
   was_held k below has = by_turn turn.1
     where
-      by_turn : (altered ≡ hand) ⊎ (altered ≡ record { page = pc / PAGE_BYTES; known = []; owed = hand.owed }) → IsHeld old memory space (start_of k)
+      by_turn : (altered ≡ hand) ⊎ (altered ≡ record { page = pc / PAGE_BYTES; known = []; owed = hand.owed }) → IsLineHeld old memory space (start_of k)
       by_turn (inl same) =
-          subst (λ n. IsHeld old memory space (PAGE_BYTES * n + LINE_BYTES * k)) (sym (ap (λ (h : Hand). h.page) same) ∙ turn.0)
+          subst (λ n. IsLineHeld old memory space (PAGE_BYTES * n + LINE_BYTES * k)) (sym (ap (λ (h : Hand). h.page) same) ∙ turn.0)
           (was k below (sym (ap (λ (h : Hand). has_line h.known k) same) ∙ has))
       by_turn (inr none) = absurd (let lacks = ap (λ (h : Hand). has_line h.known k) none in let both = sym lacks ∙ has in cc)
 
-  pub taken : (known : List ℕ) → known ≡ with_line altered.known own → IsTaken new memory space (record { page = altered.page; known = known; owed = altered.owed }) pc
+  pub taken : (known : List ℕ) → known ≡ with_line altered.known own → IsReached new memory space (record { page = altered.page; known = known; owed = altered.owed }) pc
   taken known known_is = record {
     hand_is = λ k below has.
-        subst (λ n. IsHeld new memory space (PAGE_BYTES * n + LINE_BYTES * k)) (sym turn.0)
+        subst (λ n. IsLineHeld new memory space (PAGE_BYTES * n + LINE_BYTES * k)) (sym turn.0)
         (by_own k below (sym (has_with altered.known own k) ∙ sym (ap (λ l. has_line l k) known_is) ∙ has) (cases_eq k own));
     page = turn.0;
     aligned = aligned;
@@ -131,8 +131,8 @@ module _ (old new : List (List ℕ)) (memory : TranslatedView) (space : ℕ) (ha
       or_right true b out h = absurd (out refl)
       or_right false b out h = h
 
-      by_own : (k : ℕ) → k < PAGE_LINES → (nat_eq own k || has_line altered.known k) ≡ true → (k ≡ own) ⊎ (k ≡ own → ⊥) → IsHeld new memory space (start_of k)
-      by_own k below has (inl same) = subst (λ n. IsHeld new memory space (start_of n)) (sym same) held_own
+      by_own : (k : ℕ) → k < PAGE_LINES → (nat_eq own k || has_line altered.known k) ≡ true → (k ≡ own) ⊎ (k ≡ own → ⊥) → IsLineHeld new memory space (start_of k)
+      by_own k below has (inl same) = subst (λ n. IsLineHeld new memory space (start_of n)) (sym same) held_own
       by_own k below has (inr other) =
           held_still k below other (was_held k below (or_right (nat_eq own k) (has_line altered.known k) (λ is. other (let same : own ≡ k = grind (arith, nat_tests) in sym same)) has))
 

@@ -6,7 +6,6 @@ use Rattle.std.specs.FinMap.{get, get-empty, len, len-empty}
 use Rattle.std.proofs.lemmas.Bool.Decides.{nat_tests}
 use Rattle.std.proofs.lemmas.List.{append-nil, append_assoc, get_or-map, length-map, length-take-le, take_more}
 use Rattle.number_maps.specs.Keys.{differs}
-use Rattle.number_maps.specs.Views.{get_viewed}
 use Rattle.elf_loader.specs.Accepted.{file_refusal}
 use Rattle.elf_loader.specs.Fields.{loads_of}
 use Rattle.elf_loader.specs.Image.{image_page, image_pages, is_stored, listed_page, page_numbers, perms_in, touches_memory}
@@ -18,11 +17,12 @@ use Rattle.ledger.specs.AlikeUnits.{units_alike}
 use Rattle.ledger.specs.Ledger.{holding_at}
 use Rattle.overlay_pages.specs.Changes.{AreAbsent, limit_of, units_of, with_zeros}
 use Rattle.overlay_pages.specs.State.{PageState, SpaceState, State, books, held_page, memory_of, seen_page}
+use Rattle.overlay_memory.specs.StateMemory.{memory_at}
 use Rattle.space_maps.specs.Books.{books_page, books_spaces}
 use Rattle.space_maps.specs.Laws.{page_of}
 use Rattle.space_maps.specs.Spaces.{bare_space, holds_space, page_in, space_in}
 use Rattle.machine_core.specs.Load.{stack_page, stack_pages, stored_pages, zero_content}
-use Rattle.machine_core.specs.Loading.{AreZeros, HasAdded, HasImage, HasStack, IsOpen, IsReady, is_one_of, none_listed, listed_at}
+use Rattle.machine_core.specs.Loading.{AreZeroPages, HasAdded, HasImage, HasStack, HasOpened, IsReady, is_one_of, none_listed, listed_at}
 use Rattle.machine_core.proofs.Adding.{added_none, unstored_page, zeros_added}
 use Rattle.machine_core.proofs.Marks.{units_so_far}
 
@@ -101,19 +101,15 @@ module _ (s : State) (p : ℕ) (bare : space_in s p ≡ bare_space) where
   bare_holding q = books_page held_page s p q ∙ ap (option_map (held_page s.zero_frame)) (bare_page q)
 
 -- a page that the memory lacks isn't there, and the other way round
-pub seen_at : (s : State) (p q : ℕ) → get (memory_of s p) q ≡ option_map seen_page (page_in s p q)
-unfolding memory_of
-seen_at s p q = get_viewed (λ _ x. seen_page x) (space_in s p).pages q ∙ ap (option_map seen_page) (sym (page_of s p q))
-
 pub not_seen : (s : State) (p q : ℕ) → get (memory_of s p) q ≡ None → page_in s p q ≡ None
-not_seen s p q absent = lacks (page_in s p q) (sym (seen_at s p q) ∙ absent)
+not_seen s p q absent = lacks (page_in s p q) (sym (memory_at s p q) ∙ absent)
   where
     lacks : (o : Option PageState) → option_map seen_page o ≡ None → o ≡ None
     lacks None h = refl
     lacks (Some x) h = cc
 
 pub isnt_seen : (s : State) (p q : ℕ) → page_in s p q ≡ None → get (memory_of s p) q ≡ None
-isnt_seen s p q absent = seen_at s p q ∙ ap (option_map seen_page) absent
+isnt_seen s p q absent = memory_at s p q ∙ ap (option_map seen_page) absent
 
 -- the next page of an image may be added
 module _ (file : List ℕ) (p : ℕ) (before now : State) (i : ℕ) (taken : file_refusal file ≡ None) (there : holds_space before p ≡ true) (bare : space_in before p ≡ bare_space)
@@ -171,7 +167,7 @@ take_run xs i from (suc n) fits up =
 
 module _ (file : List ℕ) (p : ℕ) (before now : State) (items : List ImagePage) (at n : ℕ) (taken : file_refusal file ≡ None) (there : holds_space before p ≡ true)
     (bare : space_in before p ≡ bare_space) (same : items ≡ map (listed_page file) (image_pages file))
-    (so_far : HasAdded before now p (image_page file) (is_stored file) (take at (image_pages file))) (zeros : AreZeros items at n) where
+    (so_far : HasAdded before now p (image_page file) (is_stored file) (take at (image_pages file))) (zeros : AreZeroPages items at n) where
   abbrev first : ImagePage
   first = listed_at items at
 
@@ -235,7 +231,7 @@ module _ (file : List ℕ) (p : ℕ) (before now : State) (items : List ImagePag
 
 -- The stack.
 
-module _ (p : ℕ) (before new : State) (there : IsOpen p before before) (absent : (q : ℕ) → 67108848 ≤ q → page_in before p q ≡ None) where
+module _ (p : ℕ) (before new : State) (there : HasOpened p before before) (absent : (q : ℕ) → 67108848 ≤ q → page_in before p q ≡ None) where
   pub stack_added : (perms : Perms) → perms.0 ≡ 6 → new ≡ with_zeros before p 67108848 16 (record { perms = perms; frame = before.zero_frame }) → HasStack p before new
   unfolding stack_pages
   stack_added perms may is =

@@ -21,7 +21,7 @@ use Rattle.overlay_memory.specs.View.{TranslatedView}
 use Rattle.overlay_pages.specs.State.{memory_of}
 use Rattle.translation_cache.specs.declared.TheConstants.{SETS}
 use Rattle.machine_core.specs.Access.{IsStoredBy, PerformsLent, spaces_lent}
-use Rattle.machine_core.specs.Held.{IsHeld, Keeps, KeepsLines, course_by, course_of, is_apart}
+use Rattle.machine_core.specs.Held.{IsLineHeld, Keeps, KeepsLinesHeld, course_by, course_of, is_apart}
 use Rattle.machine_core.specs.declared.hand.Course.{Course}
 use Rattle.machine_core.specs.declared.hand.Course.TheVariants.{On, Elsewhere, Lost}
 use Rattle.machine_core.specs.declared.view.View.{View}
@@ -44,9 +44,9 @@ apart_of address pc start test page = by_tests (address / PAGE_BYTES % SETS == p
     }
 
 -- a line is held of what follows
-held_over : (lines : List (List ℕ)) (old new : TranslatedView) (p q start : ℕ) → IsHeld lines old p start
+held_over : (lines : List (List ℕ)) (old new : TranslatedView) (p q start : ℕ) → IsLineHeld lines old p start
     → (IsCodeLine old p start (get_or lines (start / LINE_BYTES % KEPT_LINES) []) → IsCodeLine new q start (get_or lines (start / LINE_BYTES % KEPT_LINES) []))
-    → IsHeld lines new q start
+    → IsLineHeld lines new q start
 held_over lines old new p q start held goes = record { whole = held.whole; low = held.low; code = goes held.code }
 
 few_of : (size : Size) → count_of size ≤ 8
@@ -96,32 +96,32 @@ elsewhere : Elsewhere ≡ Lost → ⊥
 elsewhere same = cc
 
 module _ (lines : List (List ℕ)) (old new : View) (full : Option (ℕ × ℕ)) (start : ℕ) (regs : Registers) (rd : ℕ)
-    (held : IsHeld lines old.memory.now old.space start) (page : regs.pc / PAGE_BYTES ≡ start / PAGE_BYTES) where
+    (held : IsLineHeld lines old.memory.now old.space start) (page : regs.pc / PAGE_BYTES ≡ start / PAGE_BYTES) where
   abbrev memory : Memory
   memory = memory_of (spaces_lent old) old.space
 
   -- nothing was asked
-  nothing : PerformsLent [] old full new → IsHeld lines new.memory.now new.space start
+  nothing : PerformsLent [] old full new → IsLineHeld lines new.memory.now new.space start
   nothing made =
       held_over lines old.memory.now new.memory.now old.space new.space start held
       (subst (λ (v : View). IsCodeLine v.memory.now v.space start (get_or lines (start / LINE_BYTES % KEPT_LINES) [])) (sym made.1))
 
   -- a load
   loads : (address count : ℕ) → 0 < count → count ≤ 8 → (course_by address regs.pc ≡ Lost → ⊥) → PerformsLent (Load address count ∷ []) old full new
-      → IsHeld lines new.memory.now new.space start
+      → IsLineHeld lines new.memory.now new.space start
   loads address count some few on (mid, (loan, same, lists), (none, is)) = by_test (is_apart address regs.pc) refl
     where
-      by_test : (b : Bool) → is_apart address regs.pc ≡ b → IsHeld lines new.memory.now new.space start
+      by_test : (b : Bool) → is_apart address regs.pc ≡ b → IsLineHeld lines new.memory.now new.space start
       by_test false test = absurd (on (ap (λ b. cond b On Lost) test))
       by_test true test =
-          subst (λ (v : View). IsHeld lines v.memory.now v.space start) (sym is)
-          (subst (λ p. IsHeld lines mid.memory.now p start) (sym loan.space)
+          subst (λ (v : View). IsLineHeld lines v.memory.now v.space start) (sym is)
+          (subst (λ p. IsLineHeld lines mid.memory.now p start) (sym loan.space)
           (held_over lines old.memory.now mid.memory.now old.space old.space start held (λ code.
           code_kept old.memory.now mid.memory.now old.space start address (load_at address count).need count _ (apart_of address regs.pc start test page) some few lists code same)))
 
   -- a store
   stores : (address : ℕ) (bytes : List ℕ) → 0 < length bytes → length bytes ≤ 8 → (course_by address regs.pc ≡ Lost → ⊥)
-      → PerformsLent (Store address bytes ∷ []) old full new → IsHeld lines new.memory.now new.space start
+      → PerformsLent (Store address bytes ∷ []) old full new → IsLineHeld lines new.memory.now new.space start
   stores address bytes some few on (answer, (loan, leaves, lists), full_is, last) = by_test (is_apart address regs.pc) refl
     where
       by_answer : (a : Result (Unit {0}) Refused) → IsStoredBy old address bytes a new → is_apart address regs.pc ≡ true
@@ -137,13 +137,13 @@ module _ (lines : List (List ℕ)) (old new : View) (full : Option (ℕ × ℕ))
           code_kept old.memory.now new.memory.now old.space start address (store_at address (length bytes)).need (length bytes) _
           (apart_of address regs.pc start test page) some few counts code same
 
-      by_test : (b : Bool) → is_apart address regs.pc ≡ b → IsHeld lines new.memory.now new.space start
+      by_test : (b : Bool) → is_apart address regs.pc ≡ b → IsLineHeld lines new.memory.now new.space start
       by_test false test = absurd (on (ap (λ b. cond b On Lost) test))
       by_test true test =
-          subst (λ p. IsHeld lines new.memory.now p start) (sym loan.space)
+          subst (λ p. IsLineHeld lines new.memory.now p start) (sym loan.space)
           (held_over lines old.memory.now new.memory.now old.space old.space start held (by_answer answer (loan, leaves, lists) test))
 
-  held_behind : (a : Action) → (course_of a regs.pc ≡ Lost → ⊥) → PerformsLent (effect a rd regs memory).calls old full new → IsHeld lines new.memory.now new.space start
+  held_behind : (a : Action) → (course_of a regs.pc ≡ Lost → ⊥) → PerformsLent (effect a rd regs memory).calls old full new → IsLineHeld lines new.memory.now new.space start
   held_behind (action.Write value) on made = nothing made
   held_behind (action.Link target) on made =
       nothing (subst (λ calls. PerformsLent calls old full new)
@@ -181,7 +181,7 @@ module _ (old new : View) (full : Option (ℕ × ℕ)) (regs : Registers) (rd ne
   Kept a = (effect a rd regs lent).upshot ≡ Steps → next ≡ (effect a rd regs lent).registers.pc → PerformsLent (effect a rd regs lent).calls old full new
       → Keeps (course_of a regs.pc) old new regs.pc next
 
-  line : (a : Action) → (course_of a regs.pc ≡ Lost → ⊥) → PerformsLent (effect a rd regs lent).calls old full new → KeepsLines old new regs.pc
+  line : (a : Action) → (course_of a regs.pc ≡ Lost → ⊥) → PerformsLent (effect a rd regs lent).calls old full new → KeepsLinesHeld old new regs.pc
   line a on made lines start held page = held_behind lines old new full start regs rd held page a on made
 
   by_access : (a : Action) (address : ℕ) → course_of a regs.pc ≡ course_by address regs.pc → next ≡ next_pc regs → PerformsLent (effect a rd regs lent).calls old full new

@@ -11,7 +11,7 @@ use Rattle.machine_core.specs.Process.{runs}
 use Rattle.machine_core.specs.declared.process.Process as declared
 use Rattle.machine_core.specs.Machine.{Machine, StaysBut, is_running, wholes}
 use Rattle.machine_core.specs.Laws.{runs_shown}
-use Rattle.machine_core.specs.Kept.{IsListBut, IsListed, IsRunningList, Kept, is_in, runs_at}
+use Rattle.machine_core.specs.Kept.{IsListBut, IsListed, IsRunningList, KeptProcesses, is_in, runs_at}
 use Rattle.machine_core.proofs.Rising.{fewer, increases, rises}
 
 -- The list of running numbers, before and after a change of one process.
@@ -19,7 +19,7 @@ use Rattle.machine_core.proofs.Rising.{fewer, increases, rises}
 abbrev pub runs_found : Option declared.Process → Bool
 runs_found found = option_map_or (λ (process : declared.Process). runs process.state) found false
 
-pub runs_put : (old : Kept) (p : ℕ) (process : declared.Process) → runs_at (insert old p process) p ≡ runs process.state
+pub runs_put : (old : KeptProcesses) (p : ℕ) (process : declared.Process) → runs_at (insert old p process) p ≡ runs process.state
 runs_put old p process = ap runs_found (get_same old p p process refl)
 
 -- a process that runs is there
@@ -27,16 +27,16 @@ runs_there : (found : Option declared.Process) → runs_found found ≡ true →
 runs_there None h = h
 runs_there (Some process) h = refl
 
-pub none_listed : (processes : Kept) (running : Vec ℕ) → processes ≡ empty → running.items ≡ [] → IsRunningList processes running
+pub none_listed : (processes : KeptProcesses) (running : Vec ℕ) → processes ≡ empty → running.items ≡ [] → IsRunningList processes running
 none_listed processes running empty_is none =
-    let absent : (q : ℕ) → get processes q ≡ None = λ q. ap (λ (m : Kept). get m q) empty_is ∙ get-empty {X = declared.Process} nat_cmp q in
+    let absent : (q : ℕ) → get processes q ≡ None = λ q. ap (λ (m : KeptProcesses). get m q) empty_is ∙ get-empty {X = declared.Process} nat_cmp q in
     record {
       ascending = subst IsStrictlyIncreasing (sym none) (increases 0 [] tt);
       listed = λ q. ap (λ xs. is_in xs q) none ∙ sym (ap runs_found (absent q));
       room = λ q has. let no = ap is_some (absent q) in cc;
     }
 
-module _ (processes : Kept) (running : Vec ℕ) (p : ℕ) (kept : IsListBut p processes running) where
+module _ (processes : KeptProcesses) (running : Vec ℕ) (p : ℕ) (kept : IsListBut p processes running) where
   -- there is room for a process that runs
   pub room_left : runs_at processes p ≡ true → is_in running.items p ≡ false → length running.items < vec_capacity running
   room_left run absent =
@@ -68,7 +68,7 @@ pub never_fails : {T E : Type 0} (r : Result T E) (e : E) → r ≡ Err e → Is
 never_fails r e is ok = let no : false ≡ true = sym (ap is_ok is) ∙ ok in cc
 
 -- a process was changed, put or taken away, over a list with more room
-pub list_but : (old new : Kept) (running left : Vec ℕ) (p : ℕ) → IsRunningList old running → ((q : ℕ) → (q ≡ p → ⊥) → get new q ≡ get old q)
+pub list_but : (old new : KeptProcesses) (running left : Vec ℕ) (p : ℕ) → IsRunningList old running → ((q : ℕ) → (q ≡ p → ⊥) → get new q ≡ get old q)
     → left.items ≡ running.items → vec_capacity running ≤ vec_capacity left → (is_some (get new p) ≡ true → p < vec_capacity left) → IsListBut p new left
 list_but old new running left p kept others same more place = record {
   ascending = subst IsStrictlyIncreasing (sym same) kept.ascending;
@@ -78,12 +78,12 @@ list_but old new running left p kept others same more place = record {
       (λ other. let below = kept.room q (ap is_some (sym (others q other)) ∙ has) in omega (arith, below, more));
 }
 
-pub put_but : (old : Kept) (running left : Vec ℕ) (p : ℕ) (process : declared.Process) → IsRunningList old running
+pub put_but : (old : KeptProcesses) (running left : Vec ℕ) (p : ℕ) (process : declared.Process) → IsRunningList old running
     → left.items ≡ running.items → vec_capacity running ≤ vec_capacity left → p < vec_capacity left → IsListBut p (insert old p process) left
 put_but old running left p process kept same more below =
     list_but old (insert old p process) running left p kept (λ q other. get_other old p q process other) same more (λ has. below)
 
-pub removed_but : (old : Kept) (running : Vec ℕ) (p : ℕ) → IsRunningList old running → IsListBut p (remove old p) running
+pub removed_but : (old : KeptProcesses) (running : Vec ℕ) (p : ℕ) → IsRunningList old running → IsListBut p (remove old p) running
 removed_but old running p kept =
     list_but old (remove old p) running running p kept (λ q other. removed_other old p q other) refl (omega arith)
     (λ has. absurd (let no = ap is_some (removed_same old p p refl) in cc))

@@ -4,7 +4,7 @@ use Rattle.std.specs.FinMap.{get}
 use Rattle.ovl_io.specs.Keys.{by_key, get_same, get_other}
 use Rattle.machine_core.specs.declared.process.Process as declared
 use Rattle.machine_core.specs.Process.{Process, runs}
-use Rattle.machine_core.specs.Machine.{HaveSpaces, KeepsPlaces, Machine, StaysBut, Wholes, has_space, is_running, wholes}
+use Rattle.machine_core.specs.Machine.{HaveSpaces, KeepsPlaces, Machine, StaysBut, Wholes, is_running, wholes}
 use Rattle.machine_core.specs.Turns.{Guest, after_turn, guest_after, guest_of, guest_refused, guest_stepped, is_full, with_guest}
 use Rattle.machine_core.specs.Laws.{runs_shown}
 use Rattle.machine_core.specs.Play.{AreOwnTurns, after_number, is_full_at, own_turns, run_over, turns_of}

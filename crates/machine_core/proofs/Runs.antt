@@ -1,4 +1,4 @@
-use Rattle.std.proofs.Common.{◌≡◌, ℕ, ◌+◌, ◌-◌, ◌*◌, ◌/◌, ◌%◌, ◌^◌, ◌<◌, ◌≤◌, ◌⊎◌, inl, inr, false, List, [], drop, get_or, length, take, Option, None, sym, ap, subst, ◌∙◌, refl, arith}
+use Rattle.std.proofs.Common.{◌≡◌, ℕ, ◌+◌, ◌-◌, ◌*◌, ◌/◌, ◌%◌, ◌^◌, ◌<◌, ◌≤◌, false, List, [], drop, get_or, length, take, Option, None, sym, ap, subst, ◌∙◌, refl, arith}
 use Rattle.std.proofs.lemmas.List.{drop-drop, get_or-drop, get_or-take, length-drop, take_all}
 use Rattle.std.specs.Borrow.{Bor}
 use Rattle.std.specs.Ordering.{nat_cmp}
@@ -16,7 +16,7 @@ use Rattle.rv_execute.specs.declared.outcome.Outcome.TheVariants as outcome
 use Rattle.machine_core.specs.Access.{IsReadyView, spaces_lent}
 use Rattle.machine_core.specs.Ahead.{guest_ahead}
 use Rattle.machine_core.specs.Executions.{AreLikeExecutions, Comes, Executions, after_steps, executions, steps_in, stops_in}
-use Rattle.machine_core.specs.Held.{GoesOn, GoesPast, IsHeld, IsInHand, IsLeft, IsTaken, IsWordAt, Keeps, KeepsLines}
+use Rattle.machine_core.specs.Held.{HoldsOn, GoesPast, IsLineHeld, IsInHand, IsLeft, IsReached, IsWordAt, Keeps, KeepsLinesHeld}
 use Rattle.machine_core.specs.Turns.{AreLikeGuests, Guest, executed, outcome_of}
 use Rattle.overlay_pages.specs.State.{State}
 use Rattle.machine_core.specs.Kept.{IsBeside, guest_lent}
@@ -44,21 +44,21 @@ pub no_stop : (stops : Option (Bor Addresses)) (address : ℕ) → stops ≡ Non
 no_stop stops address none = ap (λ (o : Option (Bor Addresses)). contains (stops_in o) address) none ∙ contains-empty nat_cmp address
 
 -- the line of an address in hand
-pub held_at : (lines : List (List ℕ)) (memory : TranslatedView) (space : ℕ) (hand : Hand) (address : ℕ) → IsTaken lines memory space hand address
-    → IsHeld lines memory space (LINE_BYTES * (address / LINE_BYTES))
+pub held_at : (lines : List (List ℕ)) (memory : TranslatedView) (space : ℕ) (hand : Hand) (address : ℕ) → IsReached lines memory space hand address
+    → IsLineHeld lines memory space (LINE_BYTES * (address / LINE_BYTES))
 held_at lines memory space hand address taken =
     let page = taken.page in
     let at : PAGE_BYTES * hand.page + LINE_BYTES * (address / LINE_BYTES % PAGE_LINES) ≡ LINE_BYTES * (address / LINE_BYTES) = omega (arith, page) in
-    subst (IsHeld lines memory space) at (taken.hand_is (address / LINE_BYTES % PAGE_LINES) (omega arith) taken.known)
+    subst (IsLineHeld lines memory space) at (taken.hand_is (address / LINE_BYTES % PAGE_LINES) (omega arith) taken.known)
 
 -- lines in hand stay there
-pub in_hand_over : (lines : List (List ℕ)) (old new : View) (hand : Hand) (pc : ℕ) → KeepsLines old new pc → hand.page ≡ pc / PAGE_BYTES
+pub in_hand_over : (lines : List (List ℕ)) (old new : View) (hand : Hand) (pc : ℕ) → KeepsLinesHeld old new pc → hand.page ≡ pc / PAGE_BYTES
     → IsInHand lines old.memory.now old.space hand → IsInHand lines new.memory.now new.space hand
 in_hand_over lines old new hand pc keeps page held line low has =
     keeps lines (PAGE_BYTES * hand.page + LINE_BYTES * line) (held line low has) (omega (arith, page, low))
 
 -- the line of the first address, and the place of the first word in it
-module _ (lines : List (List ℕ)) (view : View) (first k pc : ℕ) (held : IsHeld lines view.memory.now view.space (LINE_BYTES * (first / LINE_BYTES)))
+module _ (lines : List (List ℕ)) (view : View) (first k pc : ℕ) (held : IsLineHeld lines view.memory.now view.space (LINE_BYTES * (first / LINE_BYTES)))
     (inside : first / 4 % LINE_WORDS + k < LINE_WORDS) (here : pc ≡ (LINE_BYTES * (first / LINE_BYTES) + 4 * (first / 4 % LINE_WORDS + k)) % 2 ^ 64) where
   abbrev start : ℕ
   start = LINE_BYTES * (first / LINE_BYTES)
@@ -96,13 +96,13 @@ start_page address = omega arith
 -- What is in hand behind a run: the same lines with more fetches owed, or none.
 module _ (lines : List (List ℕ)) (old view : View) (hand left : Hand) (n pc next : ℕ) (ready : IsReadyView view) (owes : left.owed ≡ hand.owed + n) (some : 0 < n) where
   pub same_lines : IsInHand lines view.memory.now view.space hand → left ≡ record { page = hand.page; known = hand.known; owed = left.owed }
-      → GoesOn lines view hand.owed n left
+      → HoldsOn lines view hand.owed n left
   same_lines in_hand same =
-      subst (λ (h : Hand). GoesOn lines view hand.owed n h) (sym same)
+      subst (λ (h : Hand). HoldsOn lines view hand.owed n h) (sym same)
       (record { ready = ready; hand_is = in_hand; owes = omega (arith, owes); some = some })
 
   pub goes_by : (course : Course) → IsLeft course hand left → Keeps course old view pc next → IsInHand lines old.memory.now old.space hand → hand.page ≡ pc / PAGE_BYTES
-      → GoesOn lines view hand.owed n left
+      → HoldsOn lines view hand.owed n left
   goes_by On same keeps held page = same_lines (in_hand_over lines old view hand pc keeps.1 page held) same
   goes_by Elsewhere same keeps held page = same_lines (in_hand_over lines old view hand pc keeps page held) same
   goes_by Lost none keeps held page = record {
@@ -173,16 +173,16 @@ pub record AreRun (stops : Addresses) (lines : List (List ℕ)) (old now : View)
   pub beside : IsBeside old.space (spaces_lent old) (spaces_lent now)
   pub kept : left ≡ hand
   pub here : process.regs.pc ≡ (LINE_BYTES * (pc / LINE_BYTES) + 4 * (pc / 4 % LINE_WORDS + k)) % 2 ^ 64
-  pub line : IsHeld lines now.memory.now now.space (LINE_BYTES * (pc / LINE_BYTES))
+  pub line : IsLineHeld lines now.memory.now now.space (LINE_BYTES * (pc / LINE_BYTES))
   pub hand_is : IsInHand lines now.memory.now now.space hand
   pub rest_is : rest ≡ drop k words
 
 -- at its start no step was taken
 pub begun_run : (stops : Addresses) (lines : List (List ℕ)) (view : View) (process : Process) (hand : Hand) (most pc k : ℕ) (words : List (Option Instr)) → k ≡ 0
-    → pc ≡ process.regs.pc → process.state ≡ state.Running → IsReadyView view → IsTaken lines view.memory.now view.space hand process.regs.pc
+    → pc ≡ process.regs.pc → process.state ≡ state.Running → IsReadyView view → IsReached lines view.memory.now view.space hand process.regs.pc
     → AreRun stops lines view view process process hand hand most pc words words k
 begun_run stops lines view process hand most pc k words none is running ready taken =
-    let held = held_at lines view.memory.now view.space hand pc (subst (IsTaken lines view.memory.now view.space hand) (sym is) taken) in
+    let held = held_at lines view.memory.now view.space hand pc (subst (IsReached lines view.memory.now view.space hand) (sym is) taken) in
     let low = held.low in
     let aligned = taken.aligned in
     let owes : hand.owed ≡ hand.owed + 0 = omega arith in

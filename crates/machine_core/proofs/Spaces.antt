@@ -24,7 +24,7 @@ use Rattle.space_maps.specs.Books.{books_put, books_spaces}
 use Rattle.space_maps.specs.Laws.{space_put}
 use Rattle.space_maps.specs.Spaces.{bare_space, cut_space, holds_space, put_space, space_in}
 use Rattle.machine_core.specs.Load.{image_memory, load_pages, loaded_ledger, stack_page, stack_pages, stored_pages}
-use Rattle.machine_core.specs.Loading.{HasPages, IsOpen, IsSpaceOf, is_one_of, one_loaded}
+use Rattle.machine_core.specs.Loading.{HasPages, HasOpened, IsSpaceOf, is_one_of, one_loaded}
 use Rattle.machine_core.proofs.Images.{above_all, bare_page, isnt_seen, none_below}
 use Rattle.machine_core.proofs.Marks.{units_after_load}
 
@@ -142,7 +142,7 @@ module _ (file : List ℕ) (p : ℕ) (old begun : State) (taken : file_refusal f
       }
 
   -- or it was given up
-  pub given_up : (now new : State) → IsOpen p begun now → new ≡ cut_space now p → new ≡ old
+  pub given_up : (now new : State) → HasOpened p begun now → new ≡ cut_space now p → new ≡ old
   unfolding cut_space
   given_up now new rest cut =
       let spaces : remove now.spaces p ≡ old.spaces = alike _ _ (λ q. by_key q p

@@ -10,7 +10,7 @@ use Rattle.machine_core.specs.Machine.{Wholes, unit_limit}
 use Rattle.machine_core.specs.Laws.{executions_chain, guests_chain, guests_itself, like_behind, like_resumed}
 use Rattle.machine_core.specs.Turns.{AreLikeGuests, Guest, after_execution, executed, execution_of, guest_at, guest_executed, guest_refused, is_full, outcome_found, outcome_of, state_executed, units_needed, with_guest}
 use Rattle.breakpoints.specs.Breakpoints.{Addresses}
-use Rattle.machine_core.specs.Executions.{AreLikeExecutions, Executions, after_executions, all_executed, Comes, IsLast, after_steps, executions, first_execution, is_at_stop, last_execution, last_outcome, more_executions, no_execution, resumed, steps_in, stopped_execution}
+use Rattle.machine_core.specs.Executions.{AreLikeExecutions, Executions, after_executions, all_executed, Comes, EndsWith, after_steps, executions, first_execution, is_at_stop, last_execution, last_outcome, more_executions, no_execution, resumed, steps_in, stopped_execution}
 
 -- Executions so far, and those that are left.
 
@@ -72,25 +72,25 @@ module _ (stops : Addresses) (p : ℕ) where
         (subst (λ e. AreLikeExecutions e all) (step_by (is_at_stop stops (executed p now)) k (executions stops p (most - (k + 1)) (executed p now)) (executed p now))
         (first_is outcome.Stepped stepped))
 
-    last_is : (o : Outcome) → AreLikeExecutions (after_steps k (last_execution o now (executed p now))) all → IsLast all k o next
+    last_is : (o : Outcome) → AreLikeExecutions (after_steps k (last_execution o now (executed p now))) all → EndsWith all k o next
     last_is o last = record {
       steps = omega (arith, last.steps);
       outcome_is = last.outcome_is;
       after_is = guests_chain next (executed p now) all.after moved last.after;
     }
 
-    pub no_step : (o : Outcome) → o ≡ outcome_of p now → (o ≡ outcome.Stepped → ⊥) → IsLast all k o next
+    pub no_step : (o : Outcome) → o ≡ outcome_of p now → (o ≡ outcome.Stepped → ⊥) → EndsWith all k o next
     no_step outcome.Stepped came other = absurd (other refl)
     no_step outcome.Asked came other = last_is outcome.Asked (first_is outcome.Asked came)
     no_step (outcome.Fault kind address) came other = last_is (outcome.Fault kind address) (first_is (outcome.Fault kind address) came)
     no_step (outcome.Full units limit) came other = last_is (outcome.Full units limit) (first_is (outcome.Full units limit) came)
 
     -- so what came of them
-    ended : (first : Guest) → all ≡ executions stops p most first → (o : Outcome) → IsLast all k o next
-        → (k + 0 ≤ most) × IsLast (executions stops p most first) (k + 0) o next
+    ended : (first : Guest) → all ≡ executions stops p most first → (o : Outcome) → EndsWith all k o next
+        → (k + 0 ≤ most) × EndsWith (executions stops p most first) (k + 0) o next
     ended first whole o last =
         let none : k ≡ k + 0 = omega arith in
-        (omega (arith, below), subst (λ n. IsLast (executions stops p most first) n o next) none (subst (λ e. IsLast e k o next) whole last))
+        (omega (arith, below), subst (λ n. EndsWith (executions stops p most first) n o next) none (subst (λ e. EndsWith e k o next) whole last))
 
     pub comes : (first : Guest) → all ≡ executions stops p most first → (o : Outcome) → o ≡ outcome_of p now → Comes stops p most first (k + steps_in o) o next
     comes first whole outcome.Stepped came =
@@ -155,7 +155,7 @@ module _ (stops : Addresses) (p : ℕ) where
         (executions_chain _ _ _ (like_behind k _ _ came) is)
 
     -- they end with the last of these
-    pub ended_on : (o : Outcome) → IsLast (executions stops p (most - k) now) n o next → IsLast all (k + n) o next
+    pub ended_on : (o : Outcome) → EndsWith (executions stops p (most - k) now) n o next → EndsWith all (k + n) o next
     ended_on o last = record {
       steps = ap (λ m. k + m) last.steps ∙ is.steps;
       outcome_is = last.outcome_is ∙ is.outcome_is;
@@ -164,22 +164,22 @@ module _ (stops : Addresses) (p : ℕ) where
 
   -- How some end: at the most that there may be, at a stop, or with what is no step.
   module _ (all : Executions) (most k : ℕ) (next : Guest) where
-    pub ends_full : most ≤ k → AreLikeExecutions (after_steps k (executions stops p (most - k) next)) all → IsLast all k outcome.Stepped next
+    pub ends_full : most ≤ k → AreLikeExecutions (after_steps k (executions stops p (most - k) next)) all → EndsWith all k outcome.Stepped next
     ends_full full is =
         let none : most - k ≡ 0 = omega (arith, full) in
         by_last (subst (λ n. AreLikeExecutions (after_steps k (executions stops p n next)) all) none is)
       where
-        by_last : AreLikeExecutions (after_steps k (no_execution next)) all → IsLast all k outcome.Stepped next
+        by_last : AreLikeExecutions (after_steps k (no_execution next)) all → EndsWith all k outcome.Stepped next
         by_last last = record { steps = omega (arith, last.steps); outcome_is = last.outcome_is; after_is = last.after }
 
-    pub ends_stopped : is_at_stop stops next ≡ true → AreLikeExecutions (after_steps k (resumed stops p most next)) all → IsLast all k outcome.Stepped next
+    pub ends_stopped : is_at_stop stops next ≡ true → AreLikeExecutions (after_steps k (resumed stops p most next)) all → EndsWith all k outcome.Stepped next
     ends_stopped stop is =
         by_last (subst (λ b. AreLikeExecutions (after_steps k (cond b (no_execution next) (executions stops p most next))) all) stop is)
       where
-        by_last : AreLikeExecutions (after_steps k (no_execution next)) all → IsLast all k outcome.Stepped next
+        by_last : AreLikeExecutions (after_steps k (no_execution next)) all → EndsWith all k outcome.Stepped next
         by_last last = record { steps = omega (arith, last.steps); outcome_is = last.outcome_is; after_is = last.after }
 
-    pub comes_last : (now : Guest) (o : Outcome) → (o ≡ outcome.Stepped → ⊥) → Comes stops p most now k o next → IsLast (executions stops p most now) k o next
+    pub comes_last : (now : Guest) (o : Outcome) → (o ≡ outcome.Stepped → ⊥) → Comes stops p most now k o next → EndsWith (executions stops p most now) k o next
     comes_last now outcome.Stepped other came = absurd (other refl)
     comes_last now outcome.Asked other came = came.1
     comes_last now (outcome.Fault kind address) other came = came.1

@@ -14,11 +14,11 @@ use Rattle.machine_core.specs.contracts.process.Process as process
 abbrev pub page_bytes_code : Coded Page
 page_bytes_code = code_by (ℕ × List ℕ) (coded× coded_ℕ (coded_list coded_ℕ)) (λ p. (p.perms, p.bytes)) (λ t. record { perms = t.0; bytes = t.1 }) (λ _. refl)
 
-abbrev pub memory_code : Coded Memory
-memory_code = code coded_ℕ page_bytes_code
+abbrev pub bytes_code : Coded Memory
+bytes_code = code coded_ℕ page_bytes_code
 
 abbrev pub machine_code : Coded Machine
 machine_code =
     code_by (TranslatedView × FinMap nat_cmp declared.Process)
-    (coded× memories.memory_code (code coded_ℕ process.the_row.coded))
+    (coded× memories.translated_code (code coded_ℕ process.the_row.coded))
     (λ m. (m.memory, m.processes)) (λ t. record { memory = t.0; processes = t.1 }) (λ _. refl)

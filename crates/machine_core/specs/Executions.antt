@@ -39,7 +39,7 @@ abbrev pub stopped_execution : Guest → Executions
 stopped_execution next = record { steps = 1; before = next; outcome = Stepped; after = next }
 
 abbrev pub more_executions : Executions → Executions
-more_executions others = record { steps = others.steps + 1; before = others.before; outcome = others.outcome; after = others.after }
+more_executions others = record others { steps = others.steps + 1 }
 
 abbrev pub is_at_stop : Addresses → Guest → Bool
 is_at_stop stops guest = contains stops guest.process.registers.pc
@@ -59,10 +59,10 @@ executions stops p (suc most) guest =
 
 -- so many steps before others
 abbrev pub after_steps : ℕ → Executions → Executions
-after_steps k others = record { steps = k + others.steps; before = others.before; outcome = others.outcome; after = others.after }
+after_steps k others = record others { steps = k + others.steps }
 
 -- the last one of all, up to the numbers of origins, and how many were steps
-pub record IsLast (all : Executions) (k : ℕ) (o : Outcome) (after : Guest) : Type 0 where
+pub record EndsWith (all : Executions) (k : ℕ) (o : Outcome) (after : Guest) : Type 0 where
   pub steps : k ≡ all.steps
   pub outcome_is : o ≡ all.outcome
   pub after_is : AreLikeGuests after all.after
@@ -81,9 +81,9 @@ steps_in (Full units limit) = 0
 -- What the first of them come to, up to one behind which it isn't known yet whether pc is at a stop, or to one that is no step.
 abbrev pub Comes : Addresses → ℕ → ℕ → Guest → ℕ → Outcome → Guest → Type 0
 Comes stops p most guest n Stepped next = (n ≤ most) × AreLikeExecutions (after_steps n (resumed stops p (most - n) next)) (executions stops p most guest)
-Comes stops p most guest n Asked next = (n ≤ most) × IsLast (executions stops p most guest) n Asked next
-Comes stops p most guest n (Fault kind address) next = (n ≤ most) × IsLast (executions stops p most guest) n (Fault kind address) next
-Comes stops p most guest n (Full units limit) next = (n ≤ most) × IsLast (executions stops p most guest) n (Full units limit) next
+Comes stops p most guest n Asked next = (n ≤ most) × EndsWith (executions stops p most guest) n Asked next
+Comes stops p most guest n (Fault kind address) next = (n ≤ most) × EndsWith (executions stops p most guest) n (Fault kind address) next
+Comes stops p most guest n (Full units limit) next = (n ≤ most) × EndsWith (executions stops p most guest) n (Full units limit) next
 
 -- of a process that may be there: how many were steps, and what came of the last one
 abbrev pub steps_of : Addresses → ℕ → ℕ → Option Guest → ℕ

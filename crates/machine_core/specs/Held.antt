@@ -27,7 +27,7 @@ use Rattle.machine_core.specs.declared.view.View.{View}
 -- The lines that instructions are taken from, decoded.
 
 -- A line of a space stands among those that are decoded, with the bytes that the memory has.
-pub record IsHeld (lines : List (List ℕ)) (memory : TranslatedView) (space start : ℕ) : Type 0 where
+pub record IsLineHeld (lines : List (List ℕ)) (memory : TranslatedView) (space start : ℕ) : Type 0 where
   pub whole : start % LINE_BYTES ≡ 0
   pub low : start < 2 ^ 64
   pub code : IsCodeLine memory space start (slice_index_or lines (start / LINE_BYTES % KEPT_LINES) [])
@@ -35,10 +35,10 @@ pub record IsHeld (lines : List (List ℕ)) (memory : TranslatedView) (space sta
 -- so do those in hand
 abbrev pub IsInHand : List (List ℕ) → TranslatedView → ℕ → Hand → Type 0
 IsInHand lines memory space hand =
-    (line : ℕ) → line < PAGE_LINES → has_line hand.known line ≡ true → IsHeld lines memory space (PAGE_BYTES * hand.page + LINE_BYTES * line)
+    (line : ℕ) → line < PAGE_LINES → has_line hand.known line ≡ true → IsLineHeld lines memory space (PAGE_BYTES * hand.page + LINE_BYTES * line)
 
 -- the line of an address is one of them
-pub record IsTaken (lines : List (List ℕ)) (memory : TranslatedView) (space : ℕ) (hand : Hand) (address : ℕ) : Type 0 where
+pub record IsReached (lines : List (List ℕ)) (memory : TranslatedView) (space : ℕ) (hand : Hand) (address : ℕ) : Type 0 where
   pub hand_is : IsInHand lines memory space hand
   pub page : hand.page ≡ address / PAGE_BYTES
   pub aligned : address % 4 ≡ 0
@@ -96,14 +96,14 @@ course_behind (Fault kind address) course = Elsewhere
 course_behind (Full units limit) course = Elsewhere
 
 -- a line of the page of an instruction is held of what follows, where it was
-abbrev pub KeepsLines : View → View → ℕ → Type 0
-KeepsLines old new pc =
-    (lines : List (List ℕ)) (start : ℕ) → IsHeld lines old.memory.now old.space start → pc / PAGE_BYTES ≡ start / PAGE_BYTES
-    → IsHeld lines new.memory.now new.space start
+abbrev pub KeepsLinesHeld : View → View → ℕ → Type 0
+KeepsLinesHeld old new pc =
+    (lines : List (List ℕ)) (start : ℕ) → IsLineHeld lines old.memory.now old.space start → pc / PAGE_BYTES ≡ start / PAGE_BYTES
+    → IsLineHeld lines new.memory.now new.space start
 
 abbrev pub Keeps : Course → View → View → ℕ → ℕ → Type 0
-Keeps On old new pc next = (next ≡ (pc + 4) % 2 ^ 64) × KeepsLines old new pc
-Keeps Elsewhere old new pc next = KeepsLines old new pc
+Keeps On old new pc next = (next ≡ (pc + 4) % 2 ^ 64) × KeepsLinesHeld old new pc
+Keeps Elsewhere old new pc next = KeepsLinesHeld old new pc
 Keeps Lost old new pc next = Unit {0}
 
 -- what is left in hand
@@ -113,7 +113,7 @@ IsLeft Elsewhere old new = new ≡ record { page = old.page; known = old.known; 
 IsLeft Lost old new = new.known ≡ []
 
 -- What is true behind some steps.
-pub record GoesOn (lines : List (List ℕ)) (view : View) (owed n : ℕ) (hand : Hand) : Type 0 where
+pub record HoldsOn (lines : List (List ℕ)) (view : View) (owed n : ℕ) (hand : Hand) : Type 0 where
   pub ready : IsReadyView view
   pub hand_is : IsInHand lines view.memory.now view.space hand
   pub owes : hand.owed ≤ owed + n

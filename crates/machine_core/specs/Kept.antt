@@ -19,15 +19,15 @@ use Rattle.machine_core.specs.declared.process.Process as declared
 -- What a machine keeps: the memories of spaces, processes by number, and the numbers of those that run.
 
 -- processes by number
-abbrev pub Kept : Type 0
-Kept = FinMap nat_cmp declared.Process
+abbrev pub KeptProcesses : Type 0
+KeptProcesses = FinMap nat_cmp declared.Process
 
 -- the machine that they are with a memory
-abbrev pub machine_of : TranslatedView → Kept → Machine
+abbrev pub machine_of : TranslatedView → KeptProcesses → Machine
 machine_of memory processes = record { memory = memory; processes = processes }
 
 -- whether there is a process of that number, and it runs
-abbrev pub runs_at : Kept → ℕ → Bool
+abbrev pub runs_at : KeptProcesses → ℕ → Bool
 runs_at processes p = option_map_or (λ (process : declared.Process). runs process.state) (get processes p) false
 
 -- a process that is kept, in its place
@@ -71,13 +71,13 @@ IsPlaceOf numbers p (Err i) =
     (i ≤ length numbers) × ((k : ℕ) → k < i → get_or numbers k 0 < p) × ((k : ℕ) → i ≤ k → k < length numbers → p < get_or numbers k 0)
 
 -- The list of running numbers: ascending, those of the processes that run, and with room for each process that there is.
-pub record IsRunningList (processes : Kept) (running : Vec ℕ) : Type 0 where
+pub record IsRunningList (processes : KeptProcesses) (running : Vec ℕ) : Type 0 where
   pub ascending : IsStrictlyIncreasing running.items
   pub listed : (q : ℕ) → is_in running.items q ≡ runs_at processes q
   pub room : (q : ℕ) → is_some (get processes q) ≡ true → q < vec_capacity running
 
 -- the same, but that it may be wrong of one number
-pub record IsListBut (p : ℕ) (processes : Kept) (running : Vec ℕ) : Type 0 where
+pub record IsListBut (p : ℕ) (processes : KeptProcesses) (running : Vec ℕ) : Type 0 where
   pub ascending : IsStrictlyIncreasing running.items
   pub listed : (q : ℕ) → (q ≡ p → ⊥) → is_in running.items q ≡ runs_at processes q
   pub room : (q : ℕ) → is_some (get processes q) ≡ true → q < vec_capacity running

@@ -4,7 +4,7 @@ use Rattle.std.specs.Option.{option_map, option_map_or, unwrap_or}
 use Rattle.std.specs.FinMap.{FinMap, get, insert, remove}
 use Rattle.std.specs.Ordering.{nat_cmp}
 use Rattle.number_maps.specs.Keys.{alike, by_key, get_same, insert_over}
-use Rattle.number_maps.specs.Views.{get_viewed, viewed, viewed_gone, viewed_put}
+use Rattle.number_maps.specs.Views.{get_viewed, viewed, viewed_gone}
 use Rattle.ledger.specs.Ledger.{Ledger}
 use Rattle.ledger.specs.Alike.{AreAlike}
 use Rattle.ledger.specs.AlikeLaws.{alike_itself, alike_chain, alike_altered}
@@ -34,7 +34,7 @@ use Rattle.translation_cache.specs.Counted.{counted}
 use Rattle.translation_cache.specs.CountedLaws.{counted_next, counted_one}
 use Rattle.translation_cache.specs.Translations.{flushed}
 use Rattle.rv_execute.specs.CallLaws.{is_requested}
-use Rattle.machine_core.specs.Machine.{AnswersAs, AreLike, IsDropped, LeadsTo, Machine, Processes, Wholes, is_running, kept_in, kept_whole, unit_limit, lists_of, none_saved, processes_of, spaces_of, whole_in, wholes, with_process_at, without_memory, without_process, without_process_at}
+use Rattle.machine_core.specs.Machine.{AnswersAs, AreLike, IsDropped, LeadsTo, Machine, Processes, Wholes, is_running, kept_in, kept_whole, unit_limit, lists_of, none_saved, processes_of, spaces_of, whole_in, wholes, without_memory, without_process, without_process_at}
 use Rattle.machine_core.specs.Turns.{AreLikeGuests, Guest, after_asked, after_execution, after_request, after_step, after_turn, asked_found, came_to, exceeds, executed, execution_of, guest_after, guest_answered, guest_at, guest_executed, guest_of, guest_refused, guest_stepped, is_full, ledger_executed, ledger_stored, outcome_found, outcome_of, process_after, process_executed, request_of, state_executed, step_of, store_of, translations_after, translations_asked, translations_executed, turn_asked, turn_in, turn_of, units_needed, with_guest}
 use Rattle.std.specs.FinSet.{contains}
 use Rattle.breakpoints.specs.Breakpoints.{Addresses}
@@ -166,6 +166,11 @@ guests_chain a b c h k = record {
   translations = h.translations ∙ k.translations;
 }
 
+-- with another process, another ledger and other translations; all that is fixed stays
+like_moved : {a b : Guest} {x y : Process} {k l : Ledger} {t u : BareTranslations} → AreLikeGuests a b → x ≡ y → AreAlike k l → t ≡ u
+    → AreLikeGuests (record a { process = x; ledger = k; translations = t }) (record b { process = y; ledger = l; translations = u })
+like_moved like process ledger translations = record { process = process; ledger = ledger; frames = like.frames; translations = translations }
+
 -- the accesses that they try
 like_tried : (p : ℕ) (a b : Guest) → AreLikeGuests a b → translations_executed p a ≡ translations_executed p b
 unfolding translations_executed
@@ -186,7 +191,7 @@ like_requested p a b like =
     ∙ ap (λ t. counted p b.process.memory (request_of p b.process).accesses t) like.translations
 
 like_refused : (p : ℕ) (a b : Guest) → AreLikeGuests a b → AreLikeGuests (guest_refused p a) (guest_refused p b)
-like_refused p a b like = record { process = like.process; ledger = like.ledger; frames = like.frames; translations = like_tried p a b like }
+like_refused p a b like = like_moved like like.process like.ledger (like_tried p a b like)
 
 alike_stored : (p : ℕ) (speculating : Bool) (store : Option (ℕ × ℕ)) (k l : Ledger) → AreAlike k l → AreAlike (ledger_stored p speculating store k) (ledger_stored p speculating store l)
 alike_stored p speculating None k l alike = alike
@@ -232,22 +237,17 @@ pub like_executed : (p : ℕ) (a b : Guest) → AreLikeGuests a b → AreLikeGue
 like_executed p a b like =
     like_cond (is_full p a) (is_full p b) (guest_refused p a) (guest_refused p b) (guest_executed p a) (guest_executed p b) (like_full p a b like)
     (like_refused p a b like)
-    (record { process = ap process_executed like.process; ledger = like_ledger p a b like; frames = like.frames; translations = like_tried p a b like })
+    (like_moved like (ap process_executed like.process) (like_ledger p a b like) (like_tried p a b like))
 
 pub like_after : (p : ℕ) (a b : Guest) → AreLikeGuests a b → AreLikeGuests (guest_after p a) (guest_after p b)
 like_after p a b like =
     like_cond (is_full p a) (is_full p b) (guest_refused p a) (guest_refused p b) (guest_stepped p a) (guest_stepped p b) (like_full p a b like)
     (like_refused p a b like)
-    (record { process = ap (process_after p) like.process; ledger = like_ledger p a b like; frames = like.frames; translations = like_stepped p a b like })
+    (like_moved like (ap (process_after p) like.process) (like_ledger p a b like) (like_stepped p a b like))
 
 pub like_answered : (p : ℕ) (a b : Guest) → AreLikeGuests a b → AreLikeGuests (guest_answered p a) (guest_answered p b)
 like_answered p a b like =
-    record {
-      process = ap (λ (process : Process). after_request process.memory process (request_of p process)) like.process;
-      ledger = like.ledger;
-      frames = like.frames;
-      translations = like_requested p a b like;
-    }
+    like_moved like (ap (λ (process : Process). after_request process.memory process (request_of p process)) like.process) like.ledger (like_requested p a b like)
 
 -- Executions one after the other that are like each other.
 

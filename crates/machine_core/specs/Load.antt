@@ -66,13 +66,7 @@ is_load_full p file state = nat_lt (unit_limit state.frames) (load_needs p file 
 
 -- the copying machine with that process under a number
 abbrev pub with_loaded : ℕ → List ℕ → Wholes → Wholes
-with_loaded p file state =
-    record {
-      processes = insert state.processes p (loaded_process file);
-      ledger = loaded_ledger p file state.ledger;
-      frames = state.frames;
-      translations = state.translations;
-    }
+with_loaded p file state = record state { processes = insert state.processes p (loaded_process file); ledger = loaded_ledger p file state.ledger }
 
 -- a machine with that process, its space, and nothing else changed
 pub record IsLoaded (p : ℕ) (file : List ℕ) (old new : Machine) : Type 0 where

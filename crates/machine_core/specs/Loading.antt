@@ -45,7 +45,7 @@ abbrev pub listed_at : List ImagePage → ℕ → ImagePage
 listed_at pages at = get_or pages at none_listed
 
 -- so many from a place on are zeros, one behind the other with the same permissions
-pub record AreZeros (pages : List ImagePage) (at n : ℕ) : Type 0 where
+pub record AreZeroPages (pages : List ImagePage) (at n : ℕ) : Type 0 where
   pub within : at + n ≤ length pages
   pub each : (k : ℕ) → k < n
       → listed_at pages (at + k) ≡ record { page = (listed_at pages at).page + k; perms = (listed_at pages at).perms; stored = false }
@@ -55,7 +55,7 @@ abbrev pub IsUnseen : ℕ → BareTranslations → Type 0
 IsUnseen p translations = flushed p translations ≡ translations
 
 -- only the pages of a space have changed
-pub record IsOpen (p : ℕ) (before now : State) : Type 0 where
+pub record HasOpened (p : ℕ) (before now : State) : Type 0 where
   pub there : holds_space now p ≡ true
   pub none_awaits : (space_in now p).awaiting ≡ empty
   pub mark : (space_in now p).speculating ≡ (space_in before p).speculating
@@ -72,7 +72,7 @@ pub record HasAdded (before now : State) (p : ℕ) (content : ℕ → Page) (mar
   pub memory : (q : ℕ) → get (memory_of now p) q ≡ cond (is_one_of pages q) (Some (content q)) (get (memory_of before p) q)
   pub count : len (space_in now p).pages ≡ len (space_in before p).pages + length pages
   pub ledger : (a : Ledger) → AreAlike a (books before) → AreAlike (fold (one_loaded p) a (map (λ page. (page, mark page)) pages)) (books now)
-  pub rest : IsOpen p before now
+  pub rest : HasOpened p before now
 
 -- those of an image, and those of the stack
 abbrev pub HasImage : List ℕ → ℕ → State → State → Type 0

@@ -136,15 +136,15 @@ pub record KeepsPlaces (old new : Machine) : Type 0 where
 
 -- a process in its place, over the space that it has
 abbrev pub with_process_at : Machine → ℕ → declared.Process → Machine
-with_process_at machine p process = record { memory = machine.memory; processes = insert machine.processes p process }
+with_process_at machine p process = record machine { processes = insert machine.processes p process }
 
 -- a process taken away, whose space stays
 abbrev pub without_process_at : Machine → ℕ → Machine
-without_process_at machine p = record { memory = machine.memory; processes = remove machine.processes p }
+without_process_at machine p = record machine { processes = remove machine.processes p }
 
 -- with another memory
 abbrev pub with_memory : Machine → TranslatedView → Machine
-with_memory machine memory = record { memory = memory; processes = machine.processes }
+with_memory machine memory = record machine { memory = memory }
 
 -- the space of a number is given up; nothing else changes
 pub record IsDropped (p : ℕ) (old new : Machine) : Type 0 where
@@ -190,10 +190,8 @@ pub record HaveSpaces (machine : Machine) : Type 0 where
 
 -- the copying machine without a process
 abbrev pub without_process : ℕ → Wholes → Wholes
-without_process p state =
-    record { processes = remove state.processes p; ledger = state.ledger; frames = state.frames; translations = state.translations }
+without_process p state = record state { processes = remove state.processes p }
 
 -- without the pages of a space in the ledger, and without translations of them
 abbrev pub without_memory : ℕ → Wholes → Wholes
-without_memory p state =
-    record { processes = state.processes; ledger = remove state.ledger p; frames = state.frames; translations = flushed p state.translations }
+without_memory p state = record state { ledger = remove state.ledger p; translations = flushed p state.translations }

@@ -71,7 +71,7 @@ state_executed (Faults kind address) = state.Faulted kind address
 abbrev pub process_executed : Process → Process
 process_executed process =
     let e = execution_of process in
-    record { registers = e.registers; state = state_executed e.upshot; memory = e.memory; kept = process.kept }
+    record process { registers = e.registers; state = state_executed e.upshot; memory = e.memory }
 
 -- The store that some calls make of a memory, where each of its bytes may be written: its address, and how many bytes it has.
 abbrev pub store_made : Memory → List Call → Option (ℕ × ℕ)
@@ -117,17 +117,15 @@ outcome_of p guest =
     else outcome_by (execution_of guest.process).upshot
 
 abbrev pub with_translations : BareTranslations → Guest → Guest
-with_translations translations guest =
-    record { process = guest.process; ledger = guest.ledger; frames = guest.frames; translations = translations }
+with_translations translations guest = record guest { translations = translations }
 
 abbrev pub guest_refused : ℕ → Guest → Guest
 guest_refused p guest = with_translations (translations_executed p guest) guest
 
 abbrev pub guest_executed : ℕ → Guest → Guest
-guest_executed p guest = record {
+guest_executed p guest = record guest {
   process = process_executed guest.process;
   ledger = ledger_executed p guest;
-  frames = guest.frames;
   translations = translations_executed p guest;
 }
 
@@ -165,12 +163,7 @@ step_of p process = step p process.registers process.memory
 
 -- the process after a step, which leaves what is kept of it
 abbrev pub after_step : Process → Step → Process
-after_step process s = record {
-  registers = s.registers;
-  state = state_after s.turn;
-  memory = s.memory;
-  kept = process.kept;
-}
+after_step process s = record process { registers = s.registers; state = state_after s.turn; memory = s.memory }
 
 -- the process afterwards
 abbrev pub process_after : ℕ → Process → Process
@@ -185,10 +178,9 @@ unfoldable pub translations_after : ℕ → Guest → BareTranslations
 translations_after p guest = counted p guest.process.memory (step_of p guest.process).accesses guest.translations
 
 abbrev pub guest_stepped : ℕ → Guest → Guest
-guest_stepped p guest = record {
+guest_stepped p guest = record guest {
   process = process_after p guest.process;
   ledger = ledger_executed p guest;
-  frames = guest.frames;
   translations = translations_after p guest;
 }
 
@@ -204,12 +196,7 @@ after_turn state p = option_map_or (λ guest. with_guest state p (guest_after p 
 
 -- a process that has this memory, after what it asked for
 abbrev pub after_request : Memory → Process → Request → Process
-after_request memory process asked = record {
-  registers = asked.registers;
-  state = state_after asked.turn;
-  memory = memory;
-  kept = process.kept;
-}
+after_request memory process asked = record process { registers = asked.registers; state = state_after asked.turn; memory = memory }
 
 -- the same, without the memory
 abbrev pub answered_by : Option SavedRegs → Request → declared.Process
@@ -231,12 +218,7 @@ unfoldable pub translations_asked : ℕ → Guest → BareTranslations
 translations_asked p guest = counted p guest.process.memory (request_of p guest.process).accesses guest.translations
 
 abbrev pub guest_answered : ℕ → Guest → Guest
-guest_answered p guest = record {
-  process = answered_process p guest.process;
-  ledger = guest.ledger;
-  frames = guest.frames;
-  translations = translations_asked p guest;
-}
+guest_answered p guest = record guest { process = answered_process p guest.process; translations = translations_asked p guest }
 
 abbrev pub turn_asked : Wholes → ℕ → Turn
 turn_asked state p = asked_found p (guest_at state p)

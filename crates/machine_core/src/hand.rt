@@ -4,7 +4,7 @@ ghost use Rattle.std.specs.Prelude.{◌≡◌, ℕ, ◌/◌, ◌%◌, ◌<◌, [
 ghost use Rattle.sizes.specs.declared.TheConstants.{LINE_BYTES, PAGE_BYTES, PAGE_LINES};
 ghost use Rattle.machine_core.specs.Access.{IsSameLoan, lists_lent, spaces_lent};
 ghost use Rattle.machine_core.specs.Ahead.{ahead};
-ghost use Rattle.machine_core.specs.Held.{IsInHand, IsTaken, IsTurned, course_by, course_of, is_apart};
+ghost use Rattle.machine_core.specs.Held.{IsInHand, IsReached, IsTurned, course_by, course_of, is_apart};
 
 use crate::view::View;
 use decoded_lines::DecodedLines;
@@ -143,7 +143,7 @@ impl Hand {
         pc: u64,
     ) -> bool
         requires hand { IsInHand lines.old memory.now space self.old }
-        ensures taken { result ≡ true → IsTaken lines.new memory.now space self.new pc }
+        ensures taken { result ≡ true → IsReached lines.new memory.now space self.new pc }
         ensures owed { self.new.owed ≡ self.old.owed }
     {
         if pc % 4 != 0 {
@@ -170,7 +170,7 @@ impl Hand {
         pc: u64,
     ) -> bool
         requires hand { IsInHand lines.old memory.now space self.old }
-        ensures taken { result ≡ true → IsTaken lines.new memory.now space self.new pc }
+        ensures taken { result ≡ true → IsReached lines.new memory.now space self.new pc }
         ensures owed { self.new.owed ≡ self.old.owed }
     {
         if page_of(pc) == self.page && pc % 4 == 0 && self.known.has(line_of(pc)) {

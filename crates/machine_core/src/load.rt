@@ -10,7 +10,7 @@ ghost use Rattle.overlay_pages.specs.State.{books};
 ghost use Rattle.overlay_memory.specs.View.{NoneAwaits, state_of, translations_of};
 ghost use Rattle.space_maps.specs.Spaces.{bare_space, holds_space, page_in, space_in};
 ghost use Rattle.machine_core.specs.Load.{loaded_ledger, stored_count, stored_pages};
-ghost use Rattle.machine_core.specs.Loading.{AreZeros, HasImage, HasStack, IsAdded, IsOpen, IsReady, HasPages, IsSpaceOf, IsUnseen, listed_at};
+ghost use Rattle.machine_core.specs.Loading.{AreZeroPages, HasImage, HasStack, IsAdded, HasOpened, IsReady, HasPages, IsSpaceOf, IsUnseen, listed_at};
 
 use bitflags::Flags;
 use elf_loader::{Image, ImagePage};
@@ -108,7 +108,7 @@ fn add_stored(
 fn count_zeros(pages: &[ImagePage], at: usize) -> u32
     requires there { at < length pages.now }
     requires few { length pages.now ≤ MOST_IMAGE_PAGES }
-    ensures zeros { AreZeros pages.now at result }
+    ensures zeros { AreZeroPages pages.now at result }
     ensures some { (listed_at pages.now at).stored ≡ false → 0 < result }
 {
     let first = pages[at];
@@ -140,7 +140,7 @@ fn add_image(
     requires fits { units_of (state_of memory.old) + FRAME_UNITS * stored_pages file.now
         ≤ limit_of (state_of memory.old) }
     ensures added { OnOk result (HasImage file.now p (state_of memory.old) (state_of memory.new)) }
-    ensures open { IsOpen p (state_of memory.old) (state_of memory.new) }
+    ensures open { HasOpened p (state_of memory.old) (state_of memory.new) }
     ensures lists { translations_of memory.new ≡ translations_of memory.old }
 {
     let pages = image.pages();
@@ -167,7 +167,7 @@ fn add_stack(memory: &mut OverlayMemory, p: u16) -> Result<(), AllocError>
     requires few { map.len (space_in (state_of memory.old) p).pages ≤ MOST_IMAGE_PAGES }
     requires absent { (q : ℕ) → STACK_PAGE ≤ q → page_in (state_of memory.old) p q ≡ None }
     ensures added { OnOk result (HasStack p (state_of memory.old) (state_of memory.new)) }
-    ensures open { IsOpen p (state_of memory.old) (state_of memory.new) }
+    ensures open { HasOpened p (state_of memory.old) (state_of memory.new) }
     ensures lists { translations_of memory.new ≡ translations_of memory.old }
 {
     add_zeros(
@@ -193,7 +193,7 @@ fn add_pages(
     requires fits { units_of (state_of memory.old) + FRAME_UNITS * stored_pages file.now
         ≤ limit_of (state_of memory.old) }
     ensures added { OnOk result (HasPages file.now p (state_of memory.old) (state_of memory.new)) }
-    ensures open { IsOpen p (state_of memory.old) (state_of memory.new) }
+    ensures open { HasOpened p (state_of memory.old) (state_of memory.new) }
     ensures lists { translations_of memory.new ≡ translations_of memory.old }
 {
     add_image(memory, p, image, file)?;

@@ -10,8 +10,8 @@ ghost use Rattle.space_maps.specs.Spaces.{holds_space};
 ghost use Rattle.breakpoints.specs.Breakpoints.{Addresses};
 ghost use Rattle.machine_core.specs.Access.{IsReadyView, spaces_lent};
 ghost use Rattle.machine_core.specs.Ahead.{guest_ahead};
-ghost use Rattle.machine_core.specs.Executions.{Comes, IsLast, executions, steps_in, stops_in};
-ghost use Rattle.machine_core.specs.Held.{course_behind, AreInLine, GoesOn, GoesPast, IsInHand, IsLeft, IsTaken, IsWordAt, Keeps, Makes};
+ghost use Rattle.machine_core.specs.Executions.{Comes, EndsWith, executions, steps_in, stops_in};
+ghost use Rattle.machine_core.specs.Held.{course_behind, AreInLine, HoldsOn, GoesPast, IsInHand, IsLeft, IsReached, IsWordAt, Keeps, Makes};
 ghost use Rattle.machine_core.specs.Kept.{IsBeside, guest_in, guest_lent};
 ghost use Rattle.machine_core.specs.Turns.{AreLikeGuests, executed, outcome_of, state_left};
 
@@ -202,7 +202,7 @@ fn run(
 ) -> (u32, Outcome)
     requires runs { process.old.state ≡ ProcessState.Running }
     requires ready { IsReadyView view.old }
-    requires taken { IsTaken lines.now view.old.memory.now view.old.space hand.old
+    requires taken { IsReached lines.now view.old.memory.now view.old.space hand.old
         process.old.regs.pc }
     requires some { 0 < most }
     requires few { hand.old.owed + most < 2 ^ 32 }
@@ -213,7 +213,7 @@ fn run(
         (guest_ahead hand.new.owed (guest_lent view.new process.new)) }
     ensures running { result.1 ≡ Outcome.Stepped → process.new.state ≡ ProcessState.Running }
     ensures goes { result.1 ≡ Outcome.Stepped
-        → GoesOn lines.now view.new hand.old.owed result.0 hand.new }
+        → HoldsOn lines.now view.new hand.old.owed result.0 hand.new }
     ensures saved { process.new.saved ≡ process.old.saved }
     ensures beside { IsBeside view.old.space (spaces_lent view.old) (spaces_lent view.new) }
 {
@@ -258,7 +258,7 @@ fn advance(
         (guest_ahead hand.new.owed (guest_lent view.new process.new)) }
     ensures running { came.new ≡ Outcome.Stepped → process.new.state ≡ ProcessState.Running }
     ensures goes { came.new ≡ Outcome.Stepped
-        → GoesOn lines.new view.new hand.old.owed result hand.new }
+        → HoldsOn lines.new view.new hand.old.owed result hand.new }
     ensures saved { process.new.saved ≡ process.old.saved }
     ensures beside { IsBeside view.old.space (spaces_lent view.old) (spaces_lent view.new) }
 {
@@ -301,7 +301,8 @@ fn step_owing(
     requires none { hand.old.owed ≡ 0 }
     ensures loan { view.new.memory.ghost_name ≡ view.old.memory.ghost_name }
     ensures space { view.new.space ≡ view.old.space }
-    ensures last { IsLast (executions (stops_in stops.entry) view.old.space most (guest_lent view.old process.old))
+    ensures ends { EndsWith (executions (stops_in stops.entry) view.old.space most
+        (guest_lent view.old process.old))
         result.0 result.1 (guest_ahead hand.new.owed (guest_lent view.new process.new)) }
     ensures saved { process.new.saved ≡ process.old.saved }
     ensures beside { IsBeside view.old.space (spaces_lent view.old) (spaces_lent view.new) }
@@ -337,7 +338,7 @@ pub(crate) fn execute_up_to(
     requires runs { process.old.state ≡ ProcessState.Running }
     requires there { holds_space (state_of memory.old) p ≡ true }
     requires none_awaits { NoneAwaits (state_of memory.old) p }
-    ensures last { IsLast (executions (stops_in stops.entry) p most (guest_in p memory.old process.old))
+    ensures ends { EndsWith (executions (stops_in stops.entry) p most (guest_in p memory.old process.old))
         result.0 result.1 (guest_in p memory.new process.new) }
     ensures saved { process.new.saved ≡ process.old.saved }
     ensures beside { IsBeside p (state_of memory.old) (state_of memory.new) }

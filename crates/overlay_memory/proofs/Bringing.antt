@@ -8,9 +8,9 @@ use Rattle.ledger.specs.StoreLaws.{joined_there, store_joins, store_nothing}
 use Rattle.overlay_pages.specs.State.{PageState, State, base_of, books, held_page, memory_of}
 use Rattle.overlay_pages.specs.Changes.{brought, is_writable, with_brought, writes_frame}
 use Rattle.overlay_memory.specs.PageLaws.{held_there}
-use Rattle.overlay_memory.specs.Pieces.{AreBeside}
+use Rattle.overlay_memory.specs.Pieces.{KeepsAllElse}
 use Rattle.overlay_memory.proofs.Joining.{joined_has, with_own_line}
-use Rattle.overlay_memory.specs.StateMemory.{alone_kept, base_kept, beside_both, beside_put, beside_same, memory_kept, writable_at, writable_same, writes_same}
+use Rattle.overlay_memory.specs.StateMemory.{alone_kept, base_kept, beside_put, beside_same, memory_kept, writable_at, writable_same, writes_same}
 use Rattle.space_maps.specs.Books.{books_put_page}
 use Rattle.space_maps.specs.Laws.{changed_there, page_put_beside, page_put_here}
 use Rattle.space_maps.specs.Spaces.{page_in, put_page, space_in, altered_page}
@@ -22,7 +22,7 @@ pub record HasBrought (old new : State) (space : ℕ) (after : Ledger) : Type 0 
   pub memory : memory_of new space ≡ memory_of old space
   pub base : base_of new space ≡ base_of old space
   pub ledger : books new ≡ after
-  pub beside : AreBeside old new space
+  pub beside : KeepsAllElse old new space
 
 pub brought_none : (v : State) (s : ℕ) → HasBrought v v s (books v)
 brought_none v s = record { memory = refl; base = refl; ledger = refl; beside = beside_same v s }
@@ -89,7 +89,11 @@ module _ (v : State) (s p : ℕ) (lines : List ℕ) (x : PageState) (there : pag
       same true = refl
       same false = refl
 
--- after two pages had lines brought
+-- a page had lines brought
+abbrev pub brought_first : State → ℕ → ℕ → List ℕ → State
+brought_first v s p lines = with_brought v s p lines
+
+-- and then another one
 
 module _ (v : State) (s p q : ℕ) (lines more : List ℕ) (x y : PageState) (there : page_in v s p ≡ Some x) (also : page_in v s q ≡ Some y) (other : q ≡ p → ⊥) where
   abbrev first : State
@@ -98,33 +102,12 @@ module _ (v : State) (s p q : ℕ) (lines more : List ℕ) (x y : PageState) (th
   abbrev both_rows : Ledger
   both_rows = ledger_after (Store (space_in v s).speculating s ((p, lines) ∷ ((q, more) ∷ []))) (books v)
 
-  second_there : page_in first s q ≡ Some y
-  second_there = brought_beside v s p lines x there q other ∙ also
-
   -- the second page joins its lines in the ledger after the first, and is alone where it was before
-  rows_are : ledger_after (Store (space_in first s).speculating s ((q, more) ∷ [])) (books first) ≡ both_rows
+  pub rows_are : ledger_after (Store (space_in first s).speculating s ((q, more) ∷ [])) (books first) ≡ both_rows
   rows_are =
       let it = brought_one v s p lines x there in
       ap (λ w. cond w (books first) (joined (books first) s q more)) (brought_frames v s p lines x there q)
       ∙ ap (λ l. cond (writes_frame v s q) l (joined l s q more)) it.ledger
-
-  pub brought_two : HasBrought v (with_brought first s q more) s both_rows
-  brought_two =
-      let one = brought_one v s p lines x there in
-      let two = brought_one first s q more y second_there in
-      record {
-        memory = two.memory ∙ one.memory;
-        base = two.base ∙ one.base;
-        ledger = two.ledger ∙ rows_are;
-        beside = beside_both v first (with_brought first s q more) s one.beside two.beside;
-      }
-
-  pub first_writable : (line : ℕ) → has_line lines line ≡ true → is_writable (with_brought first s q more) s p line ≡ true
-  first_writable line has =
-      brought_keeps first s q more y second_there p line (λ same. other (sym same)) ∙ brought_writable v s p lines x there line has
-
-  pub second_writable : (line : ℕ) → has_line more line ≡ true → is_writable (with_brought first s q more) s q line ≡ true
-  second_writable line has = brought_writable first s q more y second_there line has
 
 -- a line that can be written where it stands needs nothing
 pub joins_nothing : (v : State) (s p line : ℕ) (x : PageState) → page_in v s p ≡ Some x → AreLines x.own → is_writable v s p line ≡ true

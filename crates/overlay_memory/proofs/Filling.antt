@@ -116,7 +116,19 @@ line_put view s p line at k bytes old new after is put same count whole low none
         (sym (put ∙ ap (with_written (state_of view) s p line) lists))
         (written_filled (state_of view) s p line at bytes old x at_page is (lines_count view s p x at_page) low whole nonempty fits can)
 
--- one piece after another
+-- one piece after another: a page in which no byte of both lies has none of either
+
+both_count : (front rest : List ℕ) → length (front ++ rest) ≡ length front + length rest
+both_count front rest = length-append front rest
+
+pub front_untouched : (address : ℕ) (front rest : List ℕ) (page : ℕ) → IsUntouched address (length (front ++ rest)) page → IsUntouched address (length front) page
+front_untouched address front rest page far k low same = far k (let both = both_count front rest in omega (arith, both, low)) same
+
+pub behind_untouched : (address next : ℕ) (front rest : List ℕ) (page : ℕ) → next ≡ address + length front → IsUntouched address (length (front ++ rest)) page
+    → IsUntouched next (length rest) page
+behind_untouched address next front rest page is far k low same =
+    let further : address + (length front + k) ≡ next + k = omega (arith, is) in
+    far (length front + k) (let both = both_count front rest in omega (arith, both, low)) (ap (λ a. a / 4096) further ∙ same)
 
 pub filled_more : (a b c : State) (s address next : ℕ) (front rest : List ℕ) → next ≡ address + length front → IsFilled a b s address front
     → IsFilled b c s next rest
@@ -127,19 +139,11 @@ filled_more a b c s address next front rest is one two = record {
       ∙ sym (stored_joined (memory_of a s) address front rest);
   ledger = two.ledger ∙ one.ledger;
   base = λ on. two.base (one.beside.mark ∙ on) ∙ one.base on;
-  bases = λ page far.
-      two.bases page (λ k low same. far (length front + k) (omega (arith, both, low)) (ap (λ a. a / 4096) (further k) ∙ same))
-      ∙ one.bases page (λ k low same. far k (omega (arith, both, low)) same);
+  bases = λ page far. two.bases page (behind_untouched address next front rest page is far) ∙ one.bases page (front_untouched address front rest page far);
   entries = two.entries ∙ one.entries;
   writable = λ page line. two.writable page line ∙ one.writable page line;
   beside = beside_both a b c s one.beside two.beside;
 }
-  where
-    both : length (front ++ rest) ≡ length front + length rest
-    both = length-append front rest
-
-    further : (k : ℕ) → address + (length front + k) ≡ next + k
-    further k = omega (arith, is)
 
 pub fill_more : (a b c : State) (s address next done n k : ℕ) (bytes : List ℕ) → done ≤ length bytes → next ≡ address + done → k ≡ n
     → IsFilled a b s address (take done bytes) → IsFilled b c s next (take k (drop done bytes)) → IsFilled a c s address (take (done + n) bytes)

@@ -18,7 +18,7 @@ use Rattle.overlay_memory.proofs.Pieced.{found_piece}
 use Rattle.overlay_pages.specs.Lines.{line_in_page}
 use Rattle.overlay_memory.specs.PageLaws.{some_is}
 use Rattle.overlay_memory.specs.StateMemory.{memory_at}
-use Rattle.overlay_memory.specs.View.{AreTrue, cached_in, cached_page, view_of}
+use Rattle.overlay_memory.specs.View.{AreTrue, cached_in, cached_page, cached_view}
 use Rattle.overlay_memory.specs.declared.fronts.Fronts.{Fronts}
 use Rattle.overlay_pages.specs.Spots.{FindsPage, IsBroughtTo, IsFoundAt, IsFoundPage, IsFoundPageAt}
 use Rattle.overlay_pages.specs.State.{PageState, State, memory_of, seen_page}
@@ -243,7 +243,7 @@ module _ (view : MemoryView) (s address line : ℕ) (page : FoundPage) (found : 
   -- and may be fetched from
   pub code_there : (held : Translations Cached) (bytes : List ℕ) → permits page.perms.0 executable ≡ true → IsFront page.space page.page (bare held)
       → option_map (λ (x : PageState). line_in_page x.lines found.line) (page_in (state_of view) found.space found.page) ≡ Some bytes → length bytes ≡ LINE_BYTES
-      → IsCodeLine (view_of view held) s address bytes
+      → IsCodeLine (cached_view view held) s address bytes
   code_there held bytes may front value long = record {
     may = sym (allows_is (state_of view) s (address / PAGE_BYTES) no_translations (held_of page) executable
         (sym (held_there view s (address / PAGE_BYTES) page at))) ∙ may;

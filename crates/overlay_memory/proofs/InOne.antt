@@ -1,4 +1,4 @@
-use Rattle.std.proofs.Common.{◌≡◌, ℕ, ◌+◌, ◌*◌, ◌/◌, ◌%◌, ◌<◌, ◌≤◌, true, false, List, [], ◌∷◌, length, refl, sym, ap, subst, ◌∙◌, arith}
+use Rattle.std.proofs.Common.{◌≡◌, ℕ, ◌+◌, ◌*◌, ◌/◌, ◌%◌, ◌<◌, ◌≤◌, true, false, List, [], ◌∷◌, length, Option, Some, None, refl, sym, ap, subst, ◌∙◌, arith}
 use Rattle.std.specs.Prelude.{Err, IsSome, is_some}
 use Rattle.sizes.specs.declared.TheConstants.{LINE_BYTES, PAGE_BYTES, PAGE_LINES}
 use Rattle.ovl_io.specs.Permissions.{permits, writable}
@@ -6,14 +6,14 @@ use Rattle.overlay_bits.specs.Lines.{has_line}
 use Rattle.ledger.specs.Events.{Store, ledger_after}
 use Rattle.ledger.specs.Ledger.{Ledger}
 use Rattle.ledger.specs.Units.{units}
-use Rattle.overlay_pages.specs.State.{State, books}
+use Rattle.overlay_pages.specs.State.{PageState, State, books}
 use Rattle.overlay_pages.specs.Changes.{Fits, is_writable, limit_of, units_of, with_brought}
 use Rattle.overlay_pages.specs.Spots.{IsBroughtTo, IsFoundPageAt}
 use Rattle.overlay_pages.specs.View.{IsJoined, MemoryView, state_of}
 use Rattle.overlay_pages.specs.declared.spots.FoundPage.{FoundPage}
 use Rattle.overlay_memory.specs.declared.error.MemoryError.TheVariants.{Full}
 use Rattle.overlay_memory.specs.declared.error.Shortage.{Shortage}
-use Rattle.overlay_memory.specs.Access.{IsAllowed, Stores, stored_books}
+use Rattle.overlay_memory.specs.Access.{FitsStored, IsAllowed, IsStored, Stores, stored_books}
 use Rattle.overlay_memory.specs.Pieces.{AreWritable, IsFilled, IsPermitted, lines_under}
 use Rattle.overlay_memory.specs.Room.{IsShort}
 use Rattle.overlay_memory.specs.StateMemory.{still_there}
@@ -28,7 +28,7 @@ use Rattle.space_maps.specs.Spaces.{page_in, space_in}
 
 -- Stores whose bytes lie in one page.
 
-row_of_one : (v : State) (s address n : ℕ) → 0 < n → address % PAGE_BYTES + n ≤ PAGE_BYTES
+pub row_of_one : (v : State) (s address n : ℕ) → 0 < n → address % PAGE_BYTES + n ≤ PAGE_BYTES
     → stored_books v s address n
     ≡ ledger_after (Store (space_in v s).speculating s ((address / PAGE_BYTES, lines_under (address % PAGE_BYTES) n) ∷ [])) (books v)
 row_of_one v s address n some fits =
@@ -55,21 +55,23 @@ stored_in_line view c s address bytes may some fits can filled =
       stored_by v v c s address bytes (books v) row (brought_none v s) (subst (λ a. IsFilled v c s a bytes) place filled),
     )
 
--- a store whose bytes lie in one page that may be written, with the lines under them
-pub record IsInOne (view : MemoryView) (s address : ℕ) (lines bytes : List ℕ) : Type 0 where
-  pub may : IsPermitted view s writable address
+-- bytes in one page that is there, with the lines under them
+pub record IsInOne (v : State) (s address : ℕ) (lines bytes : List ℕ) : Type 0 where
+  pub page : PageState
+  pub there : page_in v s (address / PAGE_BYTES) ≡ Some page
   pub some : 0 < length bytes
   pub fits : address % PAGE_BYTES + length bytes ≤ PAGE_BYTES
   pub under : lines ≡ lines_under (address % PAGE_BYTES) (length bytes)
 
-pub in_one : {view : MemoryView} {s address : ℕ} {lines bytes : List ℕ} → IsPermitted view s writable address → 0 < length bytes
-    → address % PAGE_BYTES + length bytes ≤ PAGE_BYTES → lines ≡ lines_under (address % PAGE_BYTES) (length bytes) → IsInOne view s address lines bytes
-in_one may some fits under = record { may = may; some = some; fits = fits; under = under }
+pub in_one : {v : State} {s address : ℕ} {lines bytes : List ℕ} → IsSome (page_in v s (address / PAGE_BYTES)) → 0 < length bytes
+    → address % PAGE_BYTES + length bytes ≤ PAGE_BYTES → lines ≡ lines_under (address % PAGE_BYTES) (length bytes) → IsInOne v s address lines bytes
+in_one {v = v} {s = s} {address = address} {lines = lines} {bytes = bytes} is some fits under = by_page (page_in v s (address / PAGE_BYTES)) refl is
+  where
+    by_page : (o : Option PageState) → page_in v s (address / PAGE_BYTES) ≡ o → IsSome o → IsInOne v s address lines bytes
+    by_page None absent missing = cc
+    by_page (Some x) there has = record { page = x; there = there; some = some; fits = fits; under = under }
 
-module _ {view : MemoryView} {s address : ℕ} {lines bytes : List ℕ} (it : IsInOne view s address lines bytes) where
-  abbrev v : State
-  v = state_of view
-
+module _ {v : State} {s address : ℕ} {lines bytes : List ℕ} (it : IsInOne v s address lines bytes) where
   abbrev page : ℕ
   page = address / PAGE_BYTES
 
@@ -80,83 +82,82 @@ module _ {view : MemoryView} {s address : ℕ} {lines bytes : List ℕ} (it : Is
   abbrev brought : State
   brought = with_brought v s page lines
 
-  row_is : stored_books v s address (length bytes) ≡ row
+  pub row_is : stored_books v s address (length bytes) ≡ row
   row_is =
       row_of_one v s address (length bytes) it.some it.fits
       ∙ ap (λ l. ledger_after (Store (space_in v s).speculating s ((page, l) ∷ [])) (books v)) (sym it.under)
 
-  allowed : IsAllowed v s writable address (length bytes)
-  allowed = permitted view s writable address (length bytes) it.may it.fits
-
   brought_is : HasBrought v brought s row
-  brought_is = brought_one v s page lines it.may.page it.may.there
+  brought_is = brought_one v s page lines it.page it.there
 
-  pub one_full : (needed : ℕ) (shortage : Shortage) → units row ≡ needed → IsShort needed (limit_of v) shortage
-      → Stores view view s address bytes (Err (Full shortage.needed shortage.limit))
-  one_full needed shortage is short = full_store view s address needed bytes shortage allowed (ap units row_is ∙ is) short
+  -- the units after it, told by the state with the lines brought
+  pub one_needs : (needed : ℕ) → units_of brought ≡ needed → units (stored_books v s address (length bytes)) ≡ needed
+  one_needs needed is = ap units row_is ∙ sym (ap units brought_is.ledger) ∙ is
 
-  -- the units of the row, told by the state with the lines brought
-  pub one_needs : (needed : ℕ) → units_of brought ≡ needed → units row ≡ needed
-  one_needs needed is = sym (ap units brought_is.ledger) ∙ is
-
-  pub one_fits : (needed : ℕ) → units row ≡ needed → needed ≤ limit_of v → Fits brought
-  one_fits needed is room =
-      let after = ap units brought_is.ledger ∙ is in
+  pub one_fits : FitsStored v s address (length bytes) → Fits brought
+  one_fits room =
+      let after = ap units brought_is.ledger ∙ sym (ap units row_is) in
       omega (arith, after, room, brought_is.beside.frames)
 
   pub one_there : (b : State) → b ≡ brought → IsSome (page_in b s page)
-  one_there b is = ap (λ w. is_some (page_in w s page)) is ∙ still_there v brought s page brought_is.beside (ap is_some it.may.there)
+  one_there b is = ap (λ w. is_some (page_in w s page)) is ∙ still_there v brought s page brought_is.beside (ap is_some it.there)
 
   pub one_writable : (b : State) → b ≡ brought → AreWritable b s page (address % PAGE_BYTES) (length bytes)
   one_writable b is line low high =
       ap (λ w. is_writable w s page line) is
-      ∙ brought_writable v s page lines it.may.page it.may.there line
+      ∙ brought_writable v s page lines it.page it.there line
       (ap (λ l. has_line l line) it.under ∙ has_under (address % 4096) (length bytes) line it.some low high)
 
-  pub one_stored : (b c : State) → b ≡ brought → IsFilled b c s (PAGE_BYTES * page + address % PAGE_BYTES) bytes → IsDone view c s address bytes
+  pub one_stored : (b c : State) → b ≡ brought → IsFilled b c s (PAGE_BYTES * page + address % PAGE_BYTES) bytes → IsStored v c s address bytes
   one_stored b c is filled =
-      let place : 4096 * page + address % 4096 ≡ address = omega arith in (
-        allowed,
-        stored_by v b c s address bytes row row_is (subst (λ w. HasBrought v w s row) (sym is) brought_is) (subst (λ a. IsFilled b c s a bytes) place filled),
-      )
+      let place : 4096 * page + address % 4096 ≡ address = omega arith in
+      stored_by v b c s address bytes row row_is (subst (λ w. HasBrought v w s row) (sym is) brought_is) (subst (λ a. IsFilled b c s a bytes) place filled)
 
 -- Bytes of one line of a page that was found, where the line is brought before they are put.
 pub record IsApart (view : MemoryView) (s address line : ℕ) (page : FoundPage) (bytes : List ℕ) : Type 0 where
   pub at : IsFoundPageAt view s (address / PAGE_BYTES) page
   pub line_is : line ≡ address / LINE_BYTES % PAGE_LINES
-  pub one : IsInOne view s address (address / LINE_BYTES % PAGE_LINES ∷ []) bytes
+  pub may : IsPermitted view s writable address
+  pub one : IsInOne (state_of view) s address (address / LINE_BYTES % PAGE_LINES ∷ []) bytes
   pub apart : is_writable (state_of view) page.space page.page (address / LINE_BYTES % PAGE_LINES) ≡ false
 
 pub is_apart : {view : MemoryView} {s address line : ℕ} {page : FoundPage} {bytes : List ℕ} → IsFoundPageAt view s (address / PAGE_BYTES) page
     → line ≡ address / LINE_BYTES % PAGE_LINES → IsJoined view → permits page.perms.0 writable ≡ true
     → is_writable (state_of view) page.space page.page (address / LINE_BYTES % PAGE_LINES) ≡ false → 0 < length bytes → address % LINE_BYTES + length bytes ≤ LINE_BYTES
     → IsApart view s address line page bytes
-is_apart {view = view} {s = s} {address = address} {page = page} {bytes = bytes} at line_is joined may apart some fits = record {
-  at = at;
-  line_is = line_is;
-  one = in_one (may_be_used view s address page at writable joined may) some (omega (arith, fits))
-      (sym (one_under (address % 4096) (length bytes) (address / 64 % 64) some (omega arith) (omega (arith, fits))));
-  apart = apart;
-}
+is_apart {view = view} {s = s} {address = address} {page = page} {bytes = bytes} at line_is joined may apart some fits =
+    let used = may_be_used view s address page at writable joined may in
+    record {
+      at = at;
+      line_is = line_is;
+      may = used;
+      one = in_one (ap is_some used.there) some (omega (arith, fits))
+          (sym (one_under (address % 4096) (length bytes) (address / 64 % 64) some (omega arith) (omega (arith, fits))));
+      apart = apart;
+    }
 
 module _ {view : MemoryView} {s address line : ℕ} {page : FoundPage} {bytes : List ℕ} (it : IsApart view s address line page bytes) where
+  allowed : IsAllowed (state_of view) s writable address (length bytes)
+  allowed = permitted view s writable address (length bytes) it.may it.one.fits
+
   -- what the units are with a line that is brought
   abbrev AreUnits : ℕ → Type 0
   AreUnits needed = (i : ℕ) → i < PAGE_LINES → is_writable (state_of view) page.space page.page i ≡ false
       → units_of (with_brought (state_of view) page.space page.page (i ∷ [])) ≡ needed
 
-  needs : (needed : ℕ) → AreUnits needed → units (row it.one) ≡ needed
+  needs : (needed : ℕ) → AreUnits needed → units (stored_books (state_of view) s address (length bytes)) ≡ needed
   needs needed are = one_needs it.one needed
       (at_address view s address page it.at (address / 64 % 64) refl (λ q r i. units_of (with_brought (state_of view) q r (i ∷ [])) ≡ needed) (are (address / 64 % 64) (omega arith) it.apart))
 
   pub line_full : (needed limit : ℕ) (shortage : Shortage) → AreUnits needed → limit ≡ limit_of (state_of view) → IsShort needed limit shortage
       → Stores view view s address bytes (Err (Full shortage.needed shortage.limit))
-  line_full needed limit shortage are limit_is short = one_full it.one needed shortage (needs needed are) (subst (λ n. IsShort needed n shortage) limit_is short)
+  line_full needed limit shortage are limit_is short =
+      full_store view s address needed bytes shortage allowed (needs needed are) (subst (λ n. IsShort needed n shortage) limit_is short)
 
   pub line_fits : (needed limit : ℕ) → AreUnits needed → limit ≡ limit_of (state_of view) → needed ≤ limit → Fits (with_brought (state_of view) page.space page.page (line ∷ []))
   line_fits needed limit are limit_is room =
       of_address view s address page it.at line it.line_is (λ q r i. Fits (with_brought (state_of view) q r (i ∷ [])))
-      (one_fits it.one needed (needs needed are) (omega (arith, room, limit_is)))
+      (one_fits it.one (let needed_is = needs needed are in omega (arith, needed_is, room, limit_is)))
 
   module _ (mid : State) (mid_is : mid ≡ with_brought (state_of view) page.space page.page (line ∷ [])) where
     here : mid ≡ with_brought (state_of view) s (address / PAGE_BYTES) (address / LINE_BYTES % PAGE_LINES ∷ [])
@@ -172,7 +173,7 @@ module _ {view : MemoryView} {s address line : ℕ} {page : FoundPage} {bytes : 
         → IsDone view after s address bytes
     line_stored after filled =
         let place : 4096 * (address / 4096) + (64 * (address / 64 % 64) + address % 64) ≡ 4096 * (address / 4096) + address % 4096 = omega arith in
-        one_stored it.one mid after here (subst (λ a. IsFilled mid after s a bytes) place filled)
+        (allowed, one_stored it.one mid after here (subst (λ a. IsFilled mid after s a bytes) place filled))
 
   -- the page as it is found then
   pub brought_at : (mid : MemoryView) (found : FoundPage) → IsBroughtTo view.table mid.table page line found → IsFoundPageAt mid s (address / PAGE_BYTES) found

@@ -1,4 +1,4 @@
-use Rattle.std.proofs.Common.{◌≡◌, ℕ, ◌+◌, ◌-◌, ◌*◌, ◌/◌, ◌%◌, ◌<◌, ◌≤◌, ◌⊎◌, inl, inr, List, [], ◌∷◌, length, get_or, take, drop, sym, ap, ◌∙◌, refl, arith, length-drop, slice_index, slice_set}
+use Rattle.std.proofs.Common.{◌≡◌, ℕ, ◌+◌, ◌-◌, ◌*◌, ◌/◌, ◌%◌, ◌<◌, ◌≤◌, ◌⊎◌, inl, inr, List, [], length, get_or, take, drop, sym, ap, ◌∙◌, refl, arith, length-drop, slice_index, slice_set}
 use Rattle.std.proofs.lemmas.Bool.{cases_eq, cases_lt}
 use Rattle.std.proofs.lemmas.Grind.{same_number_lists}
 use Rattle.std.proofs.lemmas.List.{get_or-set_same, get_or-set_other, get_or-take, get_or-drop, length-take-le}
@@ -106,20 +106,3 @@ line_written lines line at bytes all low whole fits =
         → get_or (bytes_in_lines new) i 0 ≡ get_or (overwritten (bytes_in_lines lines) (64 * line + at) bytes) i 0
     by_line i small (inl same) = in_line i same (cases_lt (i % 64) at) (cases_lt (i % 64) (at + length bytes))
     by_line i small (inr other) = by_side i small other (cases_lt i (64 * line + at))
-
--- four bytes one by one
-first_four : (xs : List ℕ) → 4 ≤ length xs → get_or xs 0 0 ∷ (get_or xs 1 0 ∷ (get_or xs 2 0 ∷ (get_or xs 3 0 ∷ []))) ≡ take 4 xs
-first_four [] fits = absurd (omega arith)
-first_four (a ∷ []) fits = absurd (omega arith)
-first_four (a ∷ (b ∷ [])) fits = absurd (omega arith)
-first_four (a ∷ (b ∷ (c ∷ []))) fits = absurd (omega arith)
-first_four (a ∷ (b ∷ (c ∷ (d ∷ xs)))) fits = refl
-
-pub four_of : (xs : List ℕ) (at : ℕ) → at + 4 ≤ length xs
-    → get_or xs at 0 ∷ (get_or xs (at + 1) 0 ∷ (get_or xs (at + 2) 0 ∷ (get_or xs (at + 3) 0 ∷ []))) ≡ take 4 (drop at xs)
-four_of xs at fits =
-    let none : at ≡ at + 0 = omega arith in
-    let long = length-drop at xs in
-    (λ i. (ap (λ n. get_or xs n 0) none ∙ sym (get_or-drop at xs 0 0)) i
-    ∷ (sym (get_or-drop at xs 1 0) i ∷ (sym (get_or-drop at xs 2 0) i ∷ (sym (get_or-drop at xs 3 0) i ∷ []))))
-    ∙ first_four (drop at xs) (omega (arith, fits, long))

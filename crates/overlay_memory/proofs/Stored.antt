@@ -1,13 +1,13 @@
-use Rattle.std.proofs.Common.{◌≡◌, ℕ, zero, suc, ◌+◌, ◌-◌, ◌*◌, ◌/◌, ◌%◌, ◌≤◌, Bool, true, false, List, [], ◌∷◌, length, Some, sym, ap, subst, ◌∙◌, refl, arith}
+use Rattle.std.proofs.Common.{◌≡◌, ℕ, zero, suc, ◌+◌, ◌-◌, ◌*◌, ◌/◌, ◌%◌, ◌≤◌, Bool, true, false, List, [], ◌∷◌, ◌++◌, length, Some, sym, ap, subst, ◌∙◌, refl, arith}
 use Rattle.std.specs.Prelude.{Result, Ok, Err}
 use Rattle.std.specs.FinMap.{get}
 use Rattle.sizes.specs.declared.TheConstants.{LINE_BYTES, PAGE_BYTES}
 use Rattle.ovl_io.specs.Memory.{Memory, first_denied, with_bytes}
-use Rattle.ovl_io.specs.MemoryLaws.{access_front, all_allowed, first_refused}
+use Rattle.ovl_io.specs.MemoryLaws.{access_front, all_allowed, first_refused, stored_joined}
 use Rattle.ovl_io.specs.PageBytes.{page_allows}
 use Rattle.ovl_io.specs.Permissions.{writable}
 use Rattle.ledger.specs.Alike.{AreAlike}
-use Rattle.ledger.specs.AlikeLaws.{alike_itself}
+use Rattle.ledger.specs.AlikeLaws.{alike_chain, alike_itself}
 use Rattle.ledger.specs.Ledger.{Ledger}
 use Rattle.ledger.specs.Touched.{touched}
 use Rattle.ledger.specs.Units.{units}
@@ -22,6 +22,7 @@ use Rattle.overlay_memory.specs.Pieces.{IsFilled, came_of, result_at}
 use Rattle.overlay_memory.specs.Room.{IsShort}
 use Rattle.overlay_memory.specs.StateMemory.{beside_both}
 use Rattle.overlay_memory.proofs.Bringing.{HasBrought}
+use Rattle.overlay_memory.proofs.Filling.{behind_untouched, front_untouched}
 
 -- What a store comes to: lines are brought, and then bytes are put in them.
 
@@ -68,6 +69,26 @@ stored_by a b c s address bytes after row one two =
       frames = beside.frames;
       zero_frame = beside.zero_frame;
     }
+
+-- bytes were stored, and then those behind them
+pub stored_more : (a b c : State) (s address next : ℕ) (front rest : List ℕ) → next ≡ address + length front
+    → AreAlike (stored_books b s next (length rest)) (stored_books a s address (length (front ++ rest)))
+    → IsStored a b s address front → IsStored b c s next rest → IsStored a c s address (front ++ rest)
+stored_more a b c s address next front rest is row one two = record {
+  memory =
+      two.memory ∙ ap (λ m. with_bytes m next rest) one.memory ∙ ap (λ n. with_bytes (with_bytes (memory_of a s) address front) n rest) is
+      ∙ sym (stored_joined (memory_of a s) address front rest);
+  ledger = alike_chain (books c) (stored_books b s next (length rest)) (stored_books a s address (length (front ++ rest))) two.ledger row;
+  base = λ on. two.base (one.mark ∙ on) ∙ one.base on;
+  bases = λ page far. two.bases page (behind_untouched address next front rest page is far) ∙ one.bases page (front_untouched address front rest page far);
+  permissions = two.permissions ∙ one.permissions;
+  awaiting = two.awaiting ∙ one.awaiting;
+  mark = two.mark ∙ one.mark;
+  others = λ q other. two.others q other ∙ one.others q other;
+  spaces = λ q. two.spaces q ∙ one.spaces q;
+  frames = two.frames ∙ one.frames;
+  zero_frame = two.zero_frame ∙ one.zero_frame;
+}
 
 -- an error before anything was done
 pub refused_store : (view : MemoryView) (s address : ℕ) (bytes : List ℕ) (error : MemoryError)

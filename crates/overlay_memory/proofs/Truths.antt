@@ -19,7 +19,7 @@ use Rattle.overlay_memory.specs.Access.{IsStored, Stores}
 use Rattle.overlay_memory.specs.declared.error.MemoryError.{MemoryError}
 use Rattle.overlay_memory.specs.declared.error.MemoryError.TheVariants.{Unmapped, Forbidden, Full}
 use Rattle.overlay_memory.specs.PageLaws.{HasPage, has_page, held_there, some_is}
-use Rattle.overlay_memory.specs.Pieces.{AreBeside, IsFilled, emptied_space}
+use Rattle.overlay_memory.specs.Pieces.{KeepsAllElse, IsFilled, emptied_space}
 use Rattle.overlay_memory.specs.StateMemory.{entries_at, same_pages}
 use Rattle.overlay_memory.specs.View.{AreTranslated, AreTrue, AwaitApart, TranslatedView, cached_in, cached_page, state_of, translations_of}
 use Rattle.space_ledger.specs.View.{PageView}
@@ -330,7 +330,7 @@ marked_translated old new s on t is all = same_translated (put_mark old s on) ne
 
 -- Nothing but lines changed, and no ledger.
 
-pub cached_same : (old new : State) (s : ℕ) → AreBeside old new s → entries_in new s ≡ entries_in old s → books new ≡ books old → (q r : ℕ) → cached_in new q r ≡ cached_in old q r
+pub cached_same : (old new : State) (s : ℕ) → KeepsAllElse old new s → entries_in new s ≡ entries_in old s → books new ≡ books old → (q r : ℕ) → cached_in new q r ≡ cached_in old q r
 cached_same old new s beside kept ledger q r = by_key q s
     (λ same. by_pages (page_in new q r) refl (page_in old q r) refl (entries_of same))
     (λ other.

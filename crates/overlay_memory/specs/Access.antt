@@ -58,6 +58,10 @@ FindsIn view space address result = FindsLine view space (address / PAGE_BYTES) 
 abbrev pub stored_books : State → ℕ → ℕ → ℕ → Ledger
 stored_books state space address count = ledger_after (Store (space_in state space).speculating space (touched address count)) (books state)
 
+-- there are units enough for it
+abbrev pub FitsStored : State → ℕ → ℕ → ℕ → Type 0
+FitsStored state space address count = units (stored_books state space address count) ≤ limit_of state
+
 -- which pages a space has, and the permissions of each
 unfoldable pub permissions_in : State → ℕ → FinMap nat_cmp Perms
 permissions_in state space = viewed (λ _ (x : PageState). x.entry.perms) (space_in state space).pages

@@ -10,7 +10,7 @@ use Rattle.translation_cache.specs.declared.cached.Cached.{Cached}
 
 -- How the model's values are told apart: by their parts.
 
-abbrev pub memory_code : Coded TranslatedView
-memory_code =
+abbrev pub translated_code : Coded TranslatedView
+translated_code =
     code_by (MemoryView × Translations Cached) (coded× pages.memory_code (translations_code cached.the_row.coded))
     (λ m. (m.pages, m.cache)) (λ t. record { pages = t.0; cache = t.1 }) (λ _. refl)

@@ -70,7 +70,7 @@ AreWritable state space page at count =
 
 -- Nothing but lines and frames of pages changed: which pages a space has and their permissions, what awaits, its mark, all other
 -- spaces, and how many frames there are, are as before.
-pub record AreBeside (old new : State) (space : ℕ) : Type 0 where
+pub record KeepsAllElse (old new : State) (space : ℕ) : Type 0 where
   pub permissions : permissions_in new space ≡ permissions_in old space
   pub awaiting : (space_in new space).awaiting ≡ (space_in old space).awaiting
   pub mark : (space_in new space).speculating ≡ (space_in old space).speculating
@@ -87,7 +87,7 @@ pub record IsFilled (old new : State) (space address : ℕ) (bytes : List ℕ) :
   pub base : (space_in old space).speculating ≡ true → base_of new space ≡ base_of old space
   pub bases : (page : ℕ) → IsUntouched address (length bytes) page → map.get (base_of new space) page ≡ map.get (base_of old space) page
   pub writable : (page line : ℕ) → is_writable new space page line ≡ is_writable old space page line
-  pub beside : AreBeside old new space
+  pub beside : KeepsAllElse old new space
 
 -- a space without its pages; its mark stays
 unfoldable pub emptied_space : State → ℕ → State

@@ -33,12 +33,12 @@ abbrev pub IsFullAt : TranslatedView → TranslatedView → ℕ → ℕ → ℕ 
 IsFullAt old new after needed limit = IsFullFor state_of old new after needed limit
 
 -- the units after an event
-abbrev pub units_after : Event → State → ℕ
-units_after event state = units (ledger_after event (books state))
+abbrev pub event_units : Event → State → ℕ
+event_units event state = units (ledger_after event (books state))
 
 -- the units after an event are within the limit
 abbrev pub FitsAfter : Event → State → Type 0
-FitsAfter event state = units_after event state ≤ limit_of state
+FitsAfter event state = event_units event state ≤ limit_of state
 
 -- the units of a page's segment
 unfoldable pub class_at : State → ℕ → ℕ → ℕ

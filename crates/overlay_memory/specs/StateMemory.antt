@@ -13,7 +13,7 @@ use Rattle.overlay_pages.specs.State.{PageState, SpaceState, State, base_of, bas
 use Rattle.overlay_pages.specs.Changes.{is_writable, writes_frame}
 use Rattle.overlay_pages.specs.Calls.{entries_in}
 use Rattle.overlay_memory.specs.Access.{permissions_in}
-use Rattle.overlay_memory.specs.Pieces.{AreBeside}
+use Rattle.overlay_memory.specs.Pieces.{KeepsAllElse}
 use Rattle.space_maps.specs.Books.{books_page, books_put_page}
 use Rattle.space_maps.specs.Laws.{page_of, space_beside, space_put, there_space}
 use Rattle.space_maps.specs.Spaces.{holds_space, of_pages, page_in, put_page, put_space, space_in}
@@ -122,7 +122,7 @@ zero_put : (v : State) (s p : ℕ) (x : PageState) → (put_page v s p x).zero_f
 unfolding put_page put_space
 zero_put v s p x = refl
 
-pub beside_put : (v : State) (s p : ℕ) (x y : PageState) → page_in v s p ≡ Some y → x.entry.perms ≡ y.entry.perms → AreBeside v (put_page v s p x) s
+pub beside_put : (v : State) (s p : ℕ) (x y : PageState) → page_in v s p ≡ Some y → x.entry.perms ≡ y.entry.perms → KeepsAllElse v (put_page v s p x) s
 beside_put v s p x y there same = record {
   permissions = permissions_kept v s p x y there same;
   awaiting = awaiting_put v s p x;
@@ -133,10 +133,10 @@ beside_put v s p x y there same = record {
   zero_frame = zero_put v s p x;
 }
 
-pub beside_same : (v : State) (s : ℕ) → AreBeside v v s
+pub beside_same : (v : State) (s : ℕ) → KeepsAllElse v v s
 beside_same v s = record { permissions = refl; awaiting = refl; mark = refl; others = λ q other. refl; spaces = λ q. refl; frames = refl; zero_frame = refl }
 
-pub beside_both : (a b c : State) (s : ℕ) → AreBeside a b s → AreBeside b c s → AreBeside a c s
+pub beside_both : (a b c : State) (s : ℕ) → KeepsAllElse a b s → KeepsAllElse b c s → KeepsAllElse a c s
 beside_both a b c s one two = record {
   permissions = two.permissions ∙ one.permissions;
   awaiting = two.awaiting ∙ one.awaiting;
@@ -157,7 +157,7 @@ same_pages a b s p same =
     mapped (Some x) = refl
 
 -- a page that is there still is
-pub still_there : (a b : State) (s p : ℕ) → AreBeside a b s → IsSome (page_in a s p) → IsSome (page_in b s p)
+pub still_there : (a b : State) (s p : ℕ) → KeepsAllElse a b s → IsSome (page_in a s p) → IsSome (page_in b s p)
 still_there a b s p beside there =
     same_pages a b s p beside.permissions ∙ there
 

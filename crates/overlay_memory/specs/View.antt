@@ -15,8 +15,8 @@ pub record TranslatedView : Type 0 where
   pub pages : MemoryView
   pub cache : Translations Cached
 
-abbrev pub view_of : MemoryView → Translations Cached → TranslatedView
-view_of pages cache = record { pages = pages; cache = cache }
+abbrev pub cached_view : MemoryView → Translations Cached → TranslatedView
+cached_view pages cache = record { pages = pages; cache = cache }
 
 -- what they stand for: the state of the pages, and the translation lists, without what entries hold
 abbrev pub state_of : TranslatedView → State
@@ -26,8 +26,8 @@ abbrev pub translations_of : TranslatedView → BareTranslations
 translations_of view = bare view.cache
 
 -- another line at a place of the region
-abbrev pub with_line_at_place : TranslatedView → ℕ → List ℕ → TranslatedView
-with_line_at_place view at bytes = record { pages = below.with_line_at_place view.pages at bytes; cache = view.cache }
+abbrev pub with_region_line : TranslatedView → ℕ → List ℕ → TranslatedView
+with_region_line view at bytes = record { pages = below.with_line_at_place view.pages at bytes; cache = view.cache }
 
 -- What is true of all memories.
 

@@ -17,12 +17,13 @@ ghost use Rattle.overlay_pages.specs.State.{books, memory_of};
 ghost use Rattle.overlay_pages.specs.Changes.{AreAbsent, Fits, HasCopyRoom, HasShareRoom, IsPlaced, committed, copied, discarded, is_writable, limit_of, units_of, with_shared, with_written, with_zeros};
 ghost use Rattle.overlay_pages.specs.View.{HasOwnPlace, IsJoined, place_at};
 ghost use Rattle.overlay_pages.specs.Calls.{AreMapped, AreShared, AreZeros, AwaitBare, AwaitsLike, HasSettledBlocks, IsEmptyState, IsNextPage, KeepsWholeBlocks, MovesFewBeside, NoneAwaitsBelow, entries_in};
+ghost use Rattle.overlay_memory.specs.ApartLaws.{ArePagesApart};
 ghost use Rattle.overlay_memory.specs.Access.{IsFirstAbsent, Places, Reads, Stores};
 ghost use Rattle.overlay_memory.specs.Code.{IsCodeLine};
 ghost use Rattle.overlay_memory.specs.Pieces.{emptied_space};
 ghost use Rattle.overlay_memory.specs.Room.{FallsShort};
 ghost use Rattle.overlay_memory.specs.Translated.{access_at, after_access};
-ghost use Rattle.overlay_memory.specs.View.{AreTrue, NoneAwaits, state_of, translations_of, with_line_at_place};
+ghost use Rattle.overlay_memory.specs.View.{AreTrue, NoneAwaits, state_of, translations_of, with_region_line};
 ghost use Rattle.translation_cache.specs.Bare.{bare};
 ghost use Rattle.translation_cache.specs.Formed.{IsFormed};
 ghost use Rattle.translation_cache.specs.Translations.{flushed, no_translations, with_hits};
@@ -56,14 +57,14 @@ pub struct OverlayMemory {
 
 impl Model for OverlayMemory {
     ghost use Rattle.overlay_memory.specs.View.{AreTranslated, TranslatedView};
-    ghost use Rattle.overlay_memory.specs.Codes.{memory_code};
+    ghost use Rattle.overlay_memory.specs.Codes.{translated_code};
     ghost use Rattle.overlay_memory.specs.Fronts.{AreFronts};
     ghost use Rattle.translation_cache.specs.Bare.{bare};
     ghost use Rattle.overlay_pages.specs.View.{state_of};
 
     ghost Value = { TranslatedView };
 
-    ghost coded = { memory_code };
+    ghost coded = { translated_code };
 
     ghost view = { λ m. record { pages = m.pages; cache = m.cache } };
 
@@ -491,9 +492,15 @@ impl OverlayMemory {
     pub fn pages(&self, space: u16) -> u32
         ensures count { result ≡ map.len (space_in (state_of self.now) space).pages }
         ensures few { result ≤ PAGE_END }
-        ensures once { NamesOnce (state_of self.now).zero_frame (entries_in (state_of self.now) space) }
     {
         self.pages.pages(space)
+    }
+
+    /// No two pages of a space have one frame, but for the zero frame. It does nothing but say so.
+    pub fn see_apart(&self, space: u16)
+        ensures { ArePagesApart (state_of self.now) space }
+    {
+        let _pages = self.pages.pages(space);
     }
 
     /// The least page of a space not below one. None exactly where none is. Costs a look-up.
@@ -582,11 +589,11 @@ impl OverlayMemory {
         requires line { line < PAGE_LINES }
         requires writable { is_writable (state_of self.old) space page line ≡ true }
         ensures* writes_back { sem 𝓛 (Lends the_row (Array byte 0) self.entry result
-            (with_line_at_place self.old (place_at self.old.pages space page line))) }
+            (with_region_line self.old (place_at self.old.pages space page line))) }
         ensures value { option_map (λ x. line_in_page x.lines line)
             (page_in (state_of self.old) space page) ≡ Some result.now }
         ensures state { (bytes : List ℕ)
-            → state_of (with_line_at_place self.old (place_at self.old.pages space page line) bytes)
+            → state_of (with_region_line self.old (place_at self.old.pages space page line) bytes)
             ≡ with_written (state_of self.old) space page line bytes }
     {
         self.fronts.clear();

@@ -7,7 +7,7 @@ ghost use Rattle.overlay_pages.specs.Changes.{is_writable};
 ghost use Rattle.overlay_pages.specs.State.{memory_of};
 ghost use Rattle.overlay_pages.specs.View.{IsJoined, state_of};
 ghost use Rattle.overlay_pages.specs.Spots.{IsFound, IsFoundPageAt};
-ghost use Rattle.overlay_memory.specs.Access.{Stores};
+ghost use Rattle.overlay_memory.specs.Access.{FitsStored, IsStored, Stores};
 ghost use Rattle.overlay_memory.specs.Fronts.{AreFronts};
 ghost use Rattle.overlay_memory.specs.Pieces.{AreWritable, IsFilled, Permits, lines_under, result_at};
 ghost use Rattle.overlay_memory.specs.View.{AreTrue};
@@ -96,7 +96,38 @@ fn fill_page(pages: &mut OverlayPages, space: u16, page: u64, at: usize, bytes: 
     }
 }
 
-/// Stores bytes, some and all in one page: permission first, then units, then the lines, then the bytes.
+/// Puts bytes, some and all in one page that is there, whatever its permissions: first the lines in which they lie are made such as can
+/// be written where they stand, and then the bytes are put. The units after it are there.
+fn put_in_page(
+    pages: &mut OverlayPages,
+    cache: &mut Cache,
+    space: u16,
+    address: u64,
+    lines: Bits,
+    bytes: &[u8],
+)
+    requires there { IsSome (page_in (state_of pages.old) space (address / PAGE_BYTES)) }
+    requires some { 0 < length bytes.now }
+    requires one_page { address % PAGE_BYTES + length bytes.now ≤ PAGE_BYTES }
+    requires under { lines ≡ lines_under (address % PAGE_BYTES) (length bytes.now) }
+    requires fits { FitsStored (state_of pages.old) space address (length bytes.now) }
+    requires held { AreTrue (state_of pages.old) cache.old }
+    ensures stored { IsStored (state_of pages.old) (state_of pages.new) space address bytes.now }
+    ensures held { AreTrue (state_of pages.new) cache.new }
+    ensures lists { bare cache.new ≡ bare cache.old }
+{
+    let page = address / PAGE_BYTES as u64;
+    bring_lines(pages, cache, space, page, lines);
+    fill_page(
+        pages,
+        space,
+        page,
+        (address % PAGE_BYTES as u64) as usize,
+        bytes,
+    );
+}
+
+/// Stores bytes, some and all in one page: permission first, then units, then the bytes with their lines.
 fn write_in_page(
     pages: &mut OverlayPages,
     cache: &mut Cache,
@@ -116,15 +147,12 @@ fn write_in_page(
         Ok(()) => {}
         Err(error) => return Err(error),
     }
-    let page = address / PAGE_BYTES as u64;
-    let at = (address % PAGE_BYTES as u64) as usize;
-    let touched = lines_at(at, bytes.len());
-    let rise = pages.store_units(space, page, touched);
+    let touched = lines_at((address % PAGE_BYTES as u64) as usize, bytes.len());
+    let rise = pages.store_units(space, address / PAGE_BYTES as u64, touched);
     if let Some(shortage) = shortage_by(pages, rise) {
         return Err(MemoryError::Full(shortage.needed, shortage.limit));
     }
-    bring_lines(pages, cache, space, page, touched);
-    fill_page(pages, space, page, at, bytes);
+    put_in_page(pages, cache, space, address, touched, bytes);
     Ok(())
 }
 
@@ -156,18 +184,15 @@ fn write_in_two(
         Err(error) => return Err(error),
     }
     let page = address / PAGE_BYTES as u64;
-    let at = (address % PAGE_BYTES as u64) as usize;
-    let lines = lines_at(at, front);
+    let lines = lines_at((address % PAGE_BYTES as u64) as usize, front);
     let more = lines_at(0, bytes.len() - front);
     let one = pages.store_units(space, page, lines);
     let two = pages.store_units(space, page + 1, more);
     if let Some(shortage) = shortage_by(pages, one + two) {
         return Err(MemoryError::Full(shortage.needed, shortage.limit));
     }
-    bring_lines(pages, cache, space, page, lines);
-    bring_lines(pages, cache, space, page + 1, more);
-    fill_page(pages, space, page, at, &bytes[..front]);
-    fill_page(pages, space, page + 1, 0, &bytes[front..]);
+    put_in_page(pages, cache, space, address, lines, &bytes[..front]);
+    put_in_page(pages, cache, space, next, more, &bytes[front..]);
     Ok(())
 }
 

@@ -14,7 +14,7 @@ use Rattle.promotion.specs.Settled.{HasCommittedAlone, alone_in, with_committed}
 use Rattle.overlay_memory.specs.ApartLaws.{ArePagesApart}
 use Rattle.overlay_memory.specs.Joined.{IsBare}
 use Rattle.overlay_memory.specs.PageLaws.{held_there, own_is, own_there}
-use Rattle.promotion.specs.FateFolds.{after_commit, none_own, same_altered, widened}
+use Rattle.promotion.specs.FateFolds.{commit_turns, none_own, same_altered, widened}
 use Rattle.promotion.specs.Altered.{HaveAltered, WasThere, alone_now, are_settled, none_yet, one_more, own_now, said_again, still, was_there}
 use Rattle.promotion.specs.Walks.{at_first, come_past, come_to, next_done, next_kept, not_yet, so_far}
 
@@ -85,7 +85,7 @@ committed_all old now space from plain h none = record {
   settled = are_settled test (alone_in old space) (alone_in old space) old now space whole plain
       (λ r e. and_right (has_own (books old) space r) (is_alone (books old) space r) e) bare;
   ledger = same_altered (alone_in old space) (alone_in old space) (books old) (books now) (ledger_after (Commit space) (books old)) space
-      (widened test (alone_in old space) (alone_in old space) (books old) (books now) space whole.ledger wide) (after_commit (books old) space) (λ r e. e);
+      (widened test (alone_in old space) (alone_in old space) (books old) (books now) space whole.ledger wide) (commit_turns (books old) space) (λ r e. e);
 }
   where
     test : ℕ → Bool

@@ -19,7 +19,7 @@ use Rattle.overlay_memory.specs.ApartLaws.{ArePagesApart, origins_apart}
 use Rattle.overlay_memory.specs.Joined.{IsBare}
 use Rattle.overlay_memory.specs.PageLaws.{held_there, own_is, own_there}
 use Rattle.overlay_memory.specs.Room.{FitsAfter}
-use Rattle.promotion.specs.Settled.{CanCopy, HasCommittedAlone, HasSettled, IsCopiedWhere, NoneAlone, alone_in, every_page}
+use Rattle.promotion.specs.Settled.{CanCopy, HasCommittedAlone, HasSettled, CopiesOwnWhere, NoneAlone, alone_in, every_page}
 use Rattle.promotion.specs.FateLaws.{alike_altered}
 use Rattle.promotion.specs.FateFolds.{after_settle, both_tests, commits_first, none_alone, none_own, or_page, retold}
 use Rattle.promotion.specs.FateUnits.{room_on_the_way}
@@ -106,11 +106,11 @@ module _ (old now : State) (space from page : ℕ) (apart : ArePagesApart old sp
       shared : is_alone (books now) space page ≡ false
       shared = alone_now seen_page (so_far test page) old now space page was.x apart reached unaltered was.had ∙ not_alone page passes
 
-  pub copying_more : (new : State) → IsCopiedWhere (has_own (books now) space page) now new space page → page < PAGE_END → IsCopying old new space (page + 1)
+  pub copying_more : (new : State) → CopiesOwnWhere (has_own (books now) space page) now new space page → page < PAGE_END → IsCopying old new space (page + 1)
   copying_more new copies low = record { altered = moved; low = omega arith }
     where
       at_true : IfSome (page_in now space page) (λ x. IsPlaced now new space page (λ frame. copied frame x))
-      at_true = subst (λ b. IsCopiedWhere b now new space page) next.1 copies
+      at_true = subst (λ b. CopiesOwnWhere b now new space page) next.1 copies
 
       placed : IsPlaced now new space page (λ frame. copied frame was.x)
       placed = subst (λ (o : Option PageState). IfSome o (λ x. IsPlaced now new space page (λ frame. copied frame x))) at at_true
@@ -138,12 +138,12 @@ lines_above v space page n own some = own ∙ above
     above : nat_lt 0 n ≡ true
     above = grind (arith, nat_tests)
 
-pub copies_none : (v : State) (space page n : ℕ) → has_own (books v) space page ≡ nat_lt 0 n → n ≡ 0 → IsCopiedWhere (has_own (books v) space page) v v space page
-copies_none v space page n own none = subst (λ b. IsCopiedWhere b v v space page) (sym (own ∙ ap (nat_lt 0) none)) refl
+pub copies_none : (v : State) (space page n : ℕ) → has_own (books v) space page ≡ nat_lt 0 n → n ≡ 0 → CopiesOwnWhere (has_own (books v) space page) v v space page
+copies_none v space page n own none = subst (λ b. CopiesOwnWhere b v v space page) (sym (own ∙ ap (nat_lt 0) none)) refl
 
 pub copies_it : (v w : State) (space page n : ℕ) → has_own (books v) space page ≡ nat_lt 0 n → (n ≡ 0 → ⊥)
-    → IfSome (page_in v space page) (λ x. IsPlaced v w space page (λ frame. copied frame x)) → IsCopiedWhere (has_own (books v) space page) v w space page
-copies_it v w space page n own some placed = subst (λ b. IsCopiedWhere b v w space page) (sym (lines_above v space page n own some)) placed
+    → IfSome (page_in v space page) (λ x. IsPlaced v w space page (λ frame. copied frame x)) → CopiesOwnWhere (has_own (books v) space page) v w space page
+copies_it v w space page n own some placed = subst (λ b. CopiesOwnWhere b v w space page) (sym (lines_above v space page n own some)) placed
 
 -- Commits first, then copies.
 module _ (old mid : State) (space : ℕ) (apart : ArePagesApart old space) (h : HasCommittedAlone old mid space) where

@@ -17,7 +17,7 @@ use Rattle.overlay_pages.specs.Changes.{limit_of}
 use Rattle.overlay_memory.specs.ApartLaws.{ArePagesApart, origins_apart}
 use Rattle.overlay_memory.specs.CountLaws.{class_is, class_there, has_own_is}
 use Rattle.overlay_memory.specs.PageLaws.{HasPage, has_page, held_there, own_there}
-use Rattle.overlay_memory.specs.Room.{class_at, units_after}
+use Rattle.overlay_memory.specs.Room.{class_at, event_units}
 use Rattle.overlay_memory.specs.Walked.{one_further}
 use Rattle.promotion.specs.Counted.{new_frame_at}
 use Rattle.promotion.specs.Fates.{AreTurned, none_altered}
@@ -166,7 +166,7 @@ module _ (v : State) (space n from page : ℕ) (apart : ArePagesApart v space) (
           let put = ap units act.put in
           omega (arith, sum, units_are, frame, segment, kept, put)
 
-pub counted_all : (v : State) (space n from : ℕ) → IsCounting v space n from → IsNextOwn (books v) space from None → n ≡ units_after (Settle space) v
+pub counted_all : (v : State) (space n from : ℕ) → IsCounting v space n from → IsNextOwn (books v) space from None → n ≡ event_units (Settle space) v
 counted_all v space n from h none =
     h.units_is
     ∙ units_alike h.so_far (ledger_after (Settle space) (books v))

@@ -17,7 +17,7 @@ use Rattle.overlay_memory.specs.View.{TranslatedView, state_of}
 use Rattle.overlay_memory.specs.CountLaws.{HasLines, class_there, has_lines, has_own_is}
 use Rattle.overlay_memory.specs.Joined.{IsBare, all_bare}
 use Rattle.overlay_memory.specs.PageLaws.{held_there, own_is, some_is}
-use Rattle.overlay_memory.specs.Room.{FitsAfter, IsFullAt, IsShort, class_at, units_after}
+use Rattle.overlay_memory.specs.Room.{FitsAfter, IsFullAt, IsShort, class_at, event_units}
 use Rattle.overlay_memory.specs.declared.error.Shortage.{Shortage}
 use Rattle.space_maps.specs.Laws.{changed_there, same_spaces}
 use Rattle.space_maps.specs.Spaces.{holds_space, page_in, put_mark, put_page, put_space, space_in, altered_page}
@@ -35,7 +35,7 @@ use Rattle.promotion.proofs.CopyWalk.{copied_one, lines_above}
 
 -- the units after it
 pub page_units : (v : State) (space page : ℕ) (x : PageState) → page_in v space page ≡ Some x
-    → units_after (SettlePage space page) v + class_at v space page ≡ units (books v) + new_frame_at v space page
+    → event_units (SettlePage space page) v + class_at v space page ≡ units (books v) + new_frame_at v space page
 page_units v space page x at = by_own (has_own (books v) space page) refl
   where
     had : holding_at (books v) space page ≡ Some (held_page v.zero_frame x)
@@ -136,7 +136,7 @@ module _ (v : State) (space page n : ℕ) (own : List ℕ) (count segment : ℕ)
   pub segment_within : segment ≤ n
   segment_within = enough_for v space page n own count segment lines count_is segment_is enough
 
-  pub needed_is : (count ≡ 0 → ⊥) → is_alone (books v) space page ≡ false → n + FRAME_UNITS - segment ≡ units_after (SettlePage space page) v
+  pub needed_is : (count ≡ 0 → ⊥) → is_alone (books v) space page ≡ false → n + FRAME_UNITS - segment ≡ event_units (SettlePage space page) v
   needed_is some shared =
       let sum = sum_shared v space page n own count segment lines count_is segment_is enough some shared in
       let after = page_units v space page lined.x lined.there in
@@ -193,7 +193,7 @@ module _ (m : TranslatedView) (space page n : ℕ) (own : List ℕ) (count segme
         omega (arith, same, own_class, le, segment_is, units_is)
 
     pub falls_short : (shortage : Shortage) → IsShort (n + FRAME_UNITS - segment) (limit_of v) shortage
-        → IsFullAt m m (units_after (SettlePage space page) v) shortage.needed shortage.limit
+        → IsFullAt m m (event_units (SettlePage space page) v) shortage.needed shortage.limit
     falls_short shortage short = record {
       needed_is = short.needed_is ∙ needed_is v space page n own count segment lines count_is segment_is units_is some shared;
       limit_is = short.limit_is;

@@ -7,6 +7,7 @@ use Rattle.number_maps.specs.Views.{get_viewed, viewed}
 use Rattle.ovl_io.specs.Memory.{Memory, Page}
 use Rattle.ledger.specs.Ledger.{Holding, Ledger, is_alone, is_unused, without_page}
 use Rattle.ledger.specs.Changes.{has_own}
+use Rattle.overlay_memory.specs.StateMemory.{memory_at}
 use Rattle.space_maps.specs.Books.{books_marked, books_page, books_put_page}
 use Rattle.space_maps.specs.Laws.{page_of, page_put_beside, page_put_here, space_beside, space_put, there_space}
 use Rattle.space_maps.specs.Spaces.{holds_space, of_pages, page_in, put_mark, put_page, put_space, space_in}
@@ -171,10 +172,6 @@ module _ (to : PageState → Page) (t a : ℕ → Bool) (before now : State) (sp
 
 -- What a memory is when pages were altered.
 
-pub memory_at : (v : State) (s r : ℕ) → get (memory_of v s) r ≡ option_map seen_page (page_in v s r)
-unfolding memory_of
-memory_at v s r = get_viewed (λ _ x. seen_page x) (space_in v s).pages r ∙ ap (option_map seen_page) (sym (page_of v s r))
-
 pub base_at : (v : State) (s r : ℕ) → get (base_of v s) r ≡ option_map base_page (page_in v s r)
 unfolding base_of
 base_at v s r = get_viewed (λ _ x. base_page x) (space_in v s).pages r ∙ ap (option_map base_page) (sym (page_of v s r))
@@ -303,8 +300,8 @@ pub record IsMarked (v w : State) (s : ℕ) (on : Bool) : Type 0 where
   pub frames : w.frames ≡ v.frames
   pub zero_frame : w.zero_frame ≡ v.zero_frame
 
-pub is_marked : (v w : State) (s : ℕ) (on : Bool) → holds_space v s ≡ true → w ≡ put_mark v s on → IsMarked v w s on
-is_marked v w s on there is = subst (λ (u : State). IsMarked v u s on) (sym is) (record {
+pub marked_so : (v w : State) (s : ℕ) (on : Bool) → holds_space v s ≡ true → w ≡ put_mark v s on → IsMarked v w s on
+marked_so v w s on there is = subst (λ (u : State). IsMarked v u s on) (sym is) (record {
   memory = marked_memory v s on;
   base = marked_base v s on;
   ledger = books_marked held_page v s on there;

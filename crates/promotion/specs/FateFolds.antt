@@ -204,13 +204,13 @@ after_settle_page before space page =
     (λ now k y e at. settle_acts before now space k y at) (λ r. false) before page
     (retold _ _ (is_alone before space) before before space (none_altered (is_alone before space) before space) (λ r x at. and_false (has_own before space r)))
 
-pub after_discard : (before : Ledger) (space : ℕ) → AreTurned (λ r. true) (λ r. true) before (ledger_after (Discard space) before) space
-after_discard before space =
+pub discard_turns : (before : Ledger) (space : ℕ) → AreTurned (λ r. true) (λ r. true) before (ledger_after (Discard space) before) space
+discard_turns before space =
     all_folded (λ r. true) (λ r. true) before space (λ now k. cleared now space k) (clear_idle space)
     (λ now k y e at. clear_acts now space k y true refl at)
 
-pub after_commit : (before : Ledger) (space : ℕ) → AreTurned (is_alone before space) (is_alone before space) before (ledger_after (Commit space) before) space
-after_commit before space =
+pub commit_turns : (before : Ledger) (space : ℕ) → AreTurned (is_alone before space) (is_alone before space) before (ledger_after (Commit space) before) space
+commit_turns before space =
     all_folded (is_alone before space) (is_alone before space) before space (λ now k. cleared now space k) (clear_idle space)
     (λ now k y e at. clear_acts now space k y (is_alone before space k) e at)
 
@@ -269,7 +269,7 @@ module _ (before : Ledger) (space : ℕ) (apart : AreOriginsApart before space) 
   middle = ledger_after (Commit space) before
 
   committed : AreTurned (is_alone before space) (is_alone before space) before middle space
-  committed = after_commit before space
+  committed = commit_turns before space
 
   pub none_alone : (r : ℕ) → is_alone (ledger_after (Commit space) before) space r ≡ true → has_own (ledger_after (Commit space) before) space r ≡ false
   none_alone r alone = by_page (holding_at before space r) refl

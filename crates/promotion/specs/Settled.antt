@@ -7,7 +7,7 @@ use Rattle.ledger.specs.Ledger.{is_alone}
 use Rattle.overlay_pages.specs.State.{State, base_of, books, memory_of}
 use Rattle.overlay_pages.specs.Changes.{HasCopyRoom, IsPlaced, committed, copied}
 use Rattle.overlay_memory.specs.View.{TranslatedView, state_of}
-use Rattle.overlay_memory.specs.Room.{FitsAfter, IsFullAt, units_after}
+use Rattle.overlay_memory.specs.Room.{FitsAfter, IsFullAt, event_units}
 use Rattle.overlay_memory.specs.declared.error.Shortage.{Shortage}
 use Rattle.space_maps.specs.Spaces.{holds_space, page_in, space_in, altered_page}
 
@@ -59,7 +59,7 @@ pub record HasSettled (old new : State) (space : ℕ) : Type 0 where
 -- how settling a space comes out: each page is settled, or the units after that exceed the limit and nothing changed
 abbrev pub Settles : TranslatedView → TranslatedView → ℕ → Result (Unit {0}) Shortage → Type 0
 Settles old new space (Ok done) = FitsAfter (Settle space) (state_of old) × HasSettled (state_of old) (state_of new) space
-Settles old new space (Err shortage) = IsFullAt old new (units_after (Settle space) (state_of old)) shortage.needed shortage.limit
+Settles old new space (Err shortage) = IsFullAt old new (event_units (Settle space) (state_of old)) shortage.needed shortage.limit
 
 -- What is done to one page.
 
@@ -69,12 +69,12 @@ with_committed state space page =
     if has_own (books state) space page && is_alone (books state) space page then altered_page committed state space page else state
 
 -- it gets a new frame, where it has own lines
-abbrev pub IsCopiedWhere : Bool → State → State → ℕ → ℕ → Type 0
-IsCopiedWhere true old new space page = IfSome (page_in old space page) (λ x. IsPlaced old new space page (λ frame. copied frame x))
-IsCopiedWhere false old new space page = new ≡ old
+abbrev pub CopiesOwnWhere : Bool → State → State → ℕ → ℕ → Type 0
+CopiesOwnWhere true old new space page = IfSome (page_in old space page) (λ x. IsPlaced old new space page (λ frame. copied frame x))
+CopiesOwnWhere false old new space page = new ≡ old
 
-abbrev pub IsCopied : State → State → ℕ → ℕ → Type 0
-IsCopied old new space page = IsCopiedWhere (has_own (books old) space page) old new space page
+abbrev pub CopiesOwn : State → State → ℕ → ℕ → Type 0
+CopiesOwn old new space page = CopiesOwnWhere (has_own (books old) space page) old new space page
 
 -- it can be copied: it isn't alone, and the units suffice
 pub record CanCopy (state : State) (space page : ℕ) : Type 0 where

@@ -7,9 +7,9 @@ ghost use Rattle.overlay_memory.specs.View.{NoneAwaits, state_of};
 ghost use Rattle.overlay_memory.specs.Room.{FitsAfter};
 ghost use Rattle.overlay_memory.specs.Translated.{KeepsOtherTranslations};
 ghost use Rattle.space_maps.specs.Spaces.{holds_space, page_in};
-ghost use Rattle.promotion.specs.Settled.{CanCopyOwn, HasCommittedAlone, HasSettled, IsCopied, NoneAlone, Settles, with_committed};
+ghost use Rattle.promotion.specs.Settled.{CanCopyOwn, HasCommittedAlone, HasSettled, CopiesOwn, NoneAlone, Settles, with_committed};
 
-use crate::units::{see_apart, units_settled};
+use crate::units::units_settled;
 use overlay_memory::{OverlayMemory, Shortage};
 
 // The own lines of a page go into its frame, where it has any and is alone.
@@ -35,7 +35,7 @@ pub fn commit_alone(mem: &mut OverlayMemory, space: u16)
     ensures committed { HasCommittedAlone (state_of mem.old) (state_of mem.new) space }
     ensures lists { KeepsOtherTranslations space mem.old mem.new }
 {
-    see_apart(mem, space);
+    mem.see_apart(space);
     let mut from = 0;
     'committing: while let Some(page) = mem.next_overlaid(space, from) {
         commit_one(mem, space, page);
@@ -48,7 +48,7 @@ fn copy_one(mem: &mut OverlayMemory, space: u16, page: u64)
     requires there { IsSome (page_in (state_of mem.old) space page) }
     requires none_awaits { NoneAwaits (state_of mem.old) space }
     requires fits { CanCopyOwn (state_of mem.old) space page }
-    ensures copied { IsCopied (state_of mem.old) (state_of mem.new) space page }
+    ensures copied { CopiesOwn (state_of mem.old) (state_of mem.new) space page }
     ensures lists { KeepsOtherTranslations space mem.old mem.new }
     ensures low { page < PAGE_END }
 {
@@ -68,7 +68,7 @@ fn copy_overlaid(mem: &mut OverlayMemory, space: u16)
     ensures settled { HasSettled (state_of mem.old) (state_of mem.new) space }
     ensures lists { KeepsOtherTranslations space mem.old mem.new }
 {
-    see_apart(mem, space);
+    mem.see_apart(space);
     let mut from = 0;
     'copying: while let Some(page) = mem.next_overlaid(space, from) {
         copy_one(mem, space, page);
@@ -87,7 +87,7 @@ pub fn settle(mem: &mut OverlayMemory, space: u16) -> Result<(), Shortage>
     ensures settles { Settles mem.old mem.new space result }
     ensures lists { KeepsOtherTranslations space mem.old mem.new }
 {
-    see_apart(mem, space);
+    mem.see_apart(space);
     let needed = units_settled(mem, space);
     if let Some(shortage) = mem.shortage(needed) {
         return Err(shortage);

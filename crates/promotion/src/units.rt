@@ -5,20 +5,12 @@ ghost use Rattle.sizes.specs.declared.TheConstants.{FRAME_UNITS, PAGE_END};
 ghost use Rattle.ledger.specs.Events.{Settle};
 ghost use Rattle.overlay_pages.specs.Changes.{limit_of};
 ghost use Rattle.overlay_memory.specs.View.{state_of};
-ghost use Rattle.overlay_memory.specs.ApartLaws.{ArePagesApart};
-ghost use Rattle.overlay_memory.specs.Room.{class_at, units_after};
+ghost use Rattle.overlay_memory.specs.Room.{class_at, event_units};
 ghost use Rattle.space_maps.specs.Spaces.{holds_space, page_in};
 ghost use Rattle.promotion.specs.Counted.{AreUnitsWith};
 
 use overlay_memory::{OverlayMemory, class_of};
 use sizes::FRAME_UNITS;
-
-// No two pages of a space have one frame, but for the zero frame.
-pub(crate) fn see_apart(mem: &OverlayMemory, space: u16)
-    ensures { ArePagesApart (state_of mem.now) space }
-{
-    let _pages = mem.pages(space);
-}
 
 // The units with one more page of a space settled: its segment goes, and it needs a frame where it has own lines and isn't alone.
 fn with_settled(mem: &OverlayMemory, space: u16, page: u64, units: u32) -> u32
@@ -41,9 +33,9 @@ fn with_settled(mem: &OverlayMemory, space: u16, page: u64, units: u32) -> u32
 /// The units after each page of a space is settled. Costs a few look-ups for each page with own lines.
 pub(crate) fn units_settled(mem: &OverlayMemory, space: u16) -> u32
     requires there { holds_space (state_of mem.now) space ≡ true }
-    ensures { result ≡ units_after (Settle space) (state_of mem.now) }
+    ensures { result ≡ event_units (Settle space) (state_of mem.now) }
 {
-    see_apart(mem, space);
+    mem.see_apart(space);
     let mut units = mem.units();
     let mut from = 0;
     'counting: while let Some(page) = mem.next_overlaid(space, from) {

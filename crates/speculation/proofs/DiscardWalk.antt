@@ -18,8 +18,9 @@ use Rattle.promotion.specs.Settled.{mark_of}
 use Rattle.promotion.specs.Fates.{IsFate}
 use Rattle.overlay_memory.specs.Joined.{IsBare}
 use Rattle.overlay_memory.specs.PageLaws.{held_there, own_absent, own_is, own_there}
-use Rattle.promotion.specs.FateFolds.{after_discard, none_own, same_altered, widened}
-use Rattle.promotion.specs.Altered.{HaveAltered, IsAlteration, WasThere, base_at, memory_at, none_yet, one_more, own_now, said_again, still, was_there}
+use Rattle.promotion.specs.FateFolds.{discard_turns, none_own, same_altered, widened}
+use Rattle.overlay_memory.specs.StateMemory.{memory_at}
+use Rattle.promotion.specs.Altered.{HaveAltered, IsAlteration, WasThere, base_at, none_yet, one_more, own_now, said_again, still, was_there}
 use Rattle.promotion.specs.Walks.{at_first, come_past, come_to, next_done, not_yet, so_far}
 use Rattle.speculation.specs.Speculated.{HasDiscarded, with_discarded}
 
@@ -129,7 +130,7 @@ module _ (old now : State) (space from : ℕ) (plain : IsBare old space) (h : Is
     memory = alike _ _ (λ r. memory_at now space r ∙ same_memory r (page_in old space r) refl ∙ sym (base_at old space r));
     base = alike _ _ (λ r. base_at now space r ∙ same_base r (page_in old space r) refl ∙ sym (base_at old space r));
     ledger = same_altered any_origin any_origin (books old) (books now) (ledger_after (Discard space) (books old)) space
-        (widened tests any_origin any_origin (books old) (books now) space whole.ledger wide) (after_discard (books old) space) (λ r e. refl);
+        (widened tests any_origin any_origin (books old) (books now) space whole.ledger wide) (discard_turns (books old) space) (λ r e. refl);
     own = none_owned;
     awaiting = whole.awaiting;
     marked = whole.mark;

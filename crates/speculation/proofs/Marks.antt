@@ -11,14 +11,14 @@ use Rattle.overlay_pages.specs.State.{State, books}
 use Rattle.space_maps.specs.Spaces.{holds_space, put_mark}
 use Rattle.promotion.specs.Settled as settled
 use Rattle.promotion.specs.Settled.{HasSettled, alone_in, every_page, mark_of}
-use Rattle.promotion.specs.Altered.{is_marked, settled_marked}
+use Rattle.promotion.specs.Altered.{marked_so, settled_marked}
 use Rattle.speculation.specs.Speculated.{HasCommitted, HasDiscarded, HasStarted}
 
 -- A space is marked after its pages were settled, committed or discarded.
 
 pub started : (old mid new : State) (space : ℕ) → HasSettled old mid space → holds_space old space ≡ true → new ≡ put_mark mid space true → HasStarted old new space
 started old mid new space h there is =
-    let m = is_marked mid new space true (h.settled.spaces space ∙ there) is in
+    let m = marked_so mid new space true (h.settled.spaces space ∙ there) is in
     let whole = settled_marked every_page (mark_of old space) true old mid new space h.settled m in record {
       settled = whole;
       base = alike _ _ (λ r. whole.base r ∙ ap (λ (l : Memory). get l r) (sym whole.memory));
@@ -27,7 +27,7 @@ started old mid new space h there is =
 
 pub committed : (old mid new : State) (space : ℕ) → settled.HasCommittedAlone old mid space → holds_space old space ≡ true → new ≡ put_mark mid space false → HasCommitted old new space
 committed old mid new space h there is =
-    let m = is_marked mid new space false (h.settled.spaces space ∙ there) is in record {
+    let m = marked_so mid new space false (h.settled.spaces space ∙ there) is in record {
       settled = settled_marked (alone_in old space) (mark_of old space) false old mid new space h.settled m;
       ledger = m.ledger ∙ h.ledger;
     }
@@ -35,7 +35,7 @@ committed old mid new space h there is =
 pub discarded : (mark : Bool) (old mid new : State) (space : ℕ) → HasDiscarded mark old mid space → holds_space old space ≡ true → new ≡ put_mark mid space false
     → HasDiscarded false old new space
 discarded mark old mid new space h there is =
-    let m = is_marked mid new space false (h.spaces space ∙ there) is in record {
+    let m = marked_so mid new space false (h.spaces space ∙ there) is in record {
       memory = m.memory ∙ h.memory;
       base = m.base ∙ h.base;
       ledger = m.ledger ∙ h.ledger;

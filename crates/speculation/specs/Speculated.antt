@@ -4,7 +4,7 @@ use Rattle.ledger.specs.Events.{Commit, Discard, Settle, ledger_after}
 use Rattle.overlay_pages.specs.Changes.{discarded}
 use Rattle.overlay_pages.specs.State.{State, base_of, books, memory_of}
 use Rattle.overlay_memory.specs.View.{TranslatedView, state_of}
-use Rattle.overlay_memory.specs.Room.{FitsAfter, IsFullAt, units_after}
+use Rattle.overlay_memory.specs.Room.{FitsAfter, IsFullAt, event_units}
 use Rattle.space_maps.specs.Spaces.{holds_space, space_in, altered_page}
 use Rattle.promotion.specs.Settled.{AreInFrames, IsAfter, alone_in, every_page, mark_of}
 use Rattle.speculation.specs.declared.error.SpeculationError.{SpeculationError}
@@ -49,7 +49,7 @@ Starts old new space (Ok done) =
 Starts old new space (Err Speculating) = HadMark true old new space
 Starts old new space (Err NotSpeculating) = ⊥
 Starts old new space (Err (Full needed limit)) =
-    (mark_of (state_of old) space ≡ false) × IsFullAt old new (units_after (Settle space) (state_of old)) needed limit
+    (mark_of (state_of old) space ≡ false) × IsFullAt old new (event_units (Settle space) (state_of old)) needed limit
 
 abbrev pub Commits : TranslatedView → TranslatedView → ℕ → Result (Unit {0}) SpeculationError → Type 0
 Commits old new space (Ok done) = (mark_of (state_of old) space ≡ true) × HasCommitted (state_of old) (state_of new) space

@@ -31,11 +31,11 @@ pub(super) struct Spaces {
 impl Model for Spaces {
     ghost use Rattle.std.specs.Prelude.{ℕ};
     ghost use Rattle.overlay_memory.specs.View.{NoneAwaits, TranslatedView, state_of};
-    ghost use Rattle.overlay_memory.specs.Codes.{memory_code};
+    ghost use Rattle.overlay_memory.specs.Codes.{translated_code};
 
     ghost Value = { TranslatedView };
 
-    ghost coded = { memory_code };
+    ghost coded = { translated_code };
 
     ghost view = { λ m. m.memory };
 

@@ -17,14 +17,14 @@ execute_up_to-came-requires-clause-runs c =
 pub returns-clause-counts : goal.returns-clause-counts
 returns-clause-counts c state stands =
     let old = machine_of c.args.memory.now c.args.processes.now in
-    c.execute_up_to-came.ensures.last.steps
+    c.execute_up_to-came.ensures.ends.steps
     ∙ sym (ap (steps_of (stops_in c.args.stops) c.args.p c.args.most) (guest_is old c.args.p c.in-Some.process.now (sym c.in-Some.ensures.value)))
     ∙ like_steps c.args.p (wholes old) state stands (stops_in c.args.stops) c.args.most
 
 pub returns-clause-answers : goal.returns-clause-answers
 returns-clause-answers c state stands =
     let old = machine_of c.args.memory.now c.args.processes.now in
-    c.execute_up_to-came.ensures.last.outcome_is
+    c.execute_up_to-came.ensures.ends.outcome_is
     ∙ sym (ap (last_outcome (stops_in c.args.stops) c.args.p c.args.most) (guest_is old c.args.p c.in-Some.process.now (sym c.in-Some.ensures.value)))
     ∙ like_came c.args.p (wholes old) state stands (stops_in c.args.stops) c.args.most
 
@@ -33,7 +33,7 @@ returns-clause-changed c =
     let done = c.execute_up_to-came.ensures in
     changed (all_executed (stops_in c.args.stops) c.args.p c.args.most)
     (λ g h like. (like_executions (stops_in c.args.stops) c.args.p c.args.most g h like).after) c.args.p (machine_of c.args.memory.now c.args.processes.now) c.execute_up_to-came.new.memory
-    c.in-Some.process.now c.execute_up_to-came.new.process (sym c.in-Some.ensures.value) done.last.after_is done.saved done.beside
+    c.in-Some.process.now c.execute_up_to-came.new.process (sym c.in-Some.ensures.value) done.ends.after_is done.saved done.beside
 
 pub returns-clause-runs : goal.returns-clause-runs
 returns-clause-runs c = c.is_running.ensures ∙ sym (runs_put c.args.processes.now c.args.p c.execute_up_to-came.new.process)

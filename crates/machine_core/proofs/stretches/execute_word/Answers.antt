@@ -1,4 +1,4 @@
-use Rattle.std.proofs.Common.{ℕ, ◌+◌, ap, subst, sym, ◌∙◌}
+use Rattle.std.proofs.Common.{ℕ, ◌+◌, ap, subst, sym}
 use Rattle.machine_core.specs.Ahead.{guest_ahead}
 use Rattle.machine_core.specs.Held.{Keeps}
 use Rattle.machine_core.specs.Kept.{guest_lent}

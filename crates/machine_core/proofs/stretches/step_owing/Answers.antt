@@ -59,8 +59,8 @@ stepping-preserved c =
     }
 
 -- there are as many as there may be
-pub returns-clause-last : goal.returns-clause-last
-returns-clause-last c =
+pub returns-clause-ends : goal.returns-clause-ends
+returns-clause-ends c =
     let p = c.args.view.now.space in
     let now = guest_ahead c.stepping.hand.owed (guest_lent c.stepping.view c.stepping.process) in
     ends_full (stops_in c.args.stops) p (executions (stops_in c.args.stops) p c.args.most (guest_lent c.args.view.now c.args.process.now)) c.args.most c.stepping.steps now

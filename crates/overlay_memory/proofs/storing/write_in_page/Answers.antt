@@ -1,11 +1,10 @@
-use Rattle.std.proofs.Common.{length}
-use Rattle.std.specs.Prelude.{Err}
+use Rattle.std.proofs.Common.{ap, ◌∙◌, length, arith}
+use Rattle.std.specs.Prelude.{Err, is_some}
+use Rattle.ledger.specs.Units.{units}
 use Rattle.ovl_io.specs.Permissions.{writable}
-use Rattle.overlay_pages.specs.View.{state_of}
-use Rattle.overlay_memory.proofs.InOne.{in_one, one_fits, one_full, one_stored, one_there, one_writable}
-use Rattle.overlay_memory.proofs.Pieced.{reads_of}
-use Rattle.overlay_memory.proofs.Truths.{filled_true}
-use Rattle.overlay_memory.proofs.Stored.{refused_store}
+use Rattle.overlay_memory.proofs.InOne.{in_one, row_is}
+use Rattle.overlay_memory.proofs.Pieced.{permitted, reads_of}
+use Rattle.overlay_memory.proofs.Stored.{full_store, refused_store}
 use Rattle.overlay_memory.proofs.storing.write_in_page.Goals as goal
 
 pub returns-in-Err-clause-stores : goal.returns-in-Err-clause-stores
@@ -16,29 +15,18 @@ returns-in-Err-clause-stores c =
 
 pub returns-in-Some-clause-stores : goal.returns-in-Some-clause-stores
 returns-in-Some-clause-stores c =
-    one_full (in_one c.in-Ok.ensures c.requires.some c.requires.one_page c.lines_at-touched.ensures)
-    _ c.in-Some.shortage c.store_units-rise.ensures.rise.one c.in-Some.ensures
+    full_store c.args.pages.now c.args.space c.args.address _ c.args.bytes.now c.in-Some.shortage
+    (permitted c.args.pages.now c.args.space writable c.args.address (length c.args.bytes.now) c.in-Ok.ensures c.requires.one_page)
+    (ap units (row_is (in_one (ap is_some c.in-Ok.ensures.there) c.requires.some c.requires.one_page c.lines_at-touched.ensures)) ∙ c.store_units-rise.ensures.rise.one) c.in-Some.ensures
 
-pub bring_lines-requires-clause-fits : goal.bring_lines-requires-clause-fits
-bring_lines-requires-clause-fits c =
-    one_fits (in_one c.in-Ok.ensures c.requires.some c.requires.one_page c.lines_at-touched.ensures)
-    _ c.store_units-rise.ensures.rise.one c.in_default.ensures
+pub put_in_page-requires-clause-there : goal.put_in_page-requires-clause-there
+put_in_page-requires-clause-there c = ap is_some c.in-Ok.ensures.there
 
-pub fill_page-requires-clause-there : goal.fill_page-requires-clause-there
-fill_page-requires-clause-there c = one_there (in_one c.in-Ok.ensures c.requires.some c.requires.one_page c.lines_at-touched.ensures)
-    (state_of c.bring_lines.new.pages) c.bring_lines.ensures.brought
-
-pub fill_page-requires-clause-writable : goal.fill_page-requires-clause-writable
-fill_page-requires-clause-writable c = one_writable (in_one c.in-Ok.ensures c.requires.some c.requires.one_page c.lines_at-touched.ensures)
-    (state_of c.bring_lines.new.pages) c.bring_lines.ensures.brought
+pub put_in_page-requires-clause-fits : goal.put_in_page-requires-clause-fits
+put_in_page-requires-clause-fits c =
+    let needed = ap units (row_is (in_one (ap is_some c.in-Ok.ensures.there) c.requires.some c.requires.one_page c.lines_at-touched.ensures)) ∙ c.store_units-rise.ensures.rise.one in
+    omega (arith, needed, c.in_default.ensures)
 
 pub returns-clause-stores : goal.returns-clause-stores
 returns-clause-stores c =
-    one_stored (in_one c.in-Ok.ensures c.requires.some c.requires.one_page c.lines_at-touched.ensures)
-    (state_of c.bring_lines.new.pages)
-    (state_of c.fill_page.new.pages) c.bring_lines.ensures.brought c.fill_page.ensures
-
-pub returns-clause-held : goal.returns-clause-held
-returns-clause-held c =
-    filled_true (state_of c.bring_lines.new.pages) (state_of c.fill_page.new.pages) c.args.space _ c.args.bytes.now c.bring_lines.new.cache c.fill_page.ensures
-    c.bring_lines.ensures.held
+    (permitted c.args.pages.now c.args.space writable c.args.address (length c.args.bytes.now) c.in-Ok.ensures c.requires.one_page, c.put_in_page.ensures.stored)

@@ -1,11 +1,11 @@
-use Rattle.std.proofs.Common.{◌+◌, ◌-◌, length, arith}
-use Rattle.std.specs.Prelude.{Err}
+use Rattle.std.proofs.Common.{◌≡◌, ◌+◌, ◌-◌, ◌%◌, length, take, drop, sym, ap, ◌∙◌, arith}
+use Rattle.std.specs.Prelude.{Err, is_some}
 use Rattle.ovl_io.specs.Permissions.{writable}
 use Rattle.overlay_pages.specs.View.{state_of}
-use Rattle.overlay_memory.proofs.InTwo.{fill_there, fill_there_too, fill_writable, fill_writable_too, first_fits, in_two, second_fits, second_there, two_full, two_stored}
+use Rattle.overlay_memory.specs.Pieces.{lines_under}
+use Rattle.overlay_memory.proofs.InTwo.{first_count, first_fits, in_two, rest_count, second_fits, second_there, two_full, two_stored}
 use Rattle.overlay_memory.proofs.Pieced.{low_address, permitted, reads_of}
 use Rattle.overlay_memory.proofs.ReadSoFar.{read_refused}
-use Rattle.overlay_memory.proofs.Truths.{filled_true}
 use Rattle.overlay_memory.proofs.Stored.{front_refused, refused_store}
 use Rattle.overlay_memory.proofs.storing.write_in_two.Goals as goal
 
@@ -36,58 +36,62 @@ returns-in-Some-clause-stores c =
     c.lines_at-lines.ensures c.lines_at-more.ensures)
     c.store_units-one.result c.store_units-two.result c.in-Some.shortage c.store_units-one.ensures.rise c.store_units-two.ensures.rise c.in-Some.ensures
 
-pub bring_lines-requires-clause-fits : goal.bring_lines-requires-clause-fits
-bring_lines-requires-clause-fits c =
+pub put_in_page-requires-clause-there : goal.put_in_page-requires-clause-there
+put_in_page-requires-clause-there c = ap is_some c.in-Ok.ensures.there
+
+pub put_in_page-requires-clause-some : goal.put_in_page-requires-clause-some
+put_in_page-requires-clause-some c =
+    let count = first_count (in_two c.in-Ok.ensures c.in-Ok-permit_store.ensures c.requires.front c.requires.over c.requires.two_pages
+    c.lines_at-lines.ensures c.lines_at-more.ensures) in omega (arith, count, c.requires.front)
+
+pub put_in_page-requires-clause-one_page : goal.put_in_page-requires-clause-one_page
+put_in_page-requires-clause-one_page c =
+    let count = first_count (in_two c.in-Ok.ensures c.in-Ok-permit_store.ensures c.requires.front c.requires.over c.requires.two_pages
+    c.lines_at-lines.ensures c.lines_at-more.ensures) in omega (arith, count, c.requires.front)
+
+pub put_in_page-requires-clause-under : goal.put_in_page-requires-clause-under
+put_in_page-requires-clause-under c =
+    c.lines_at-lines.ensures ∙ sym (ap (lines_under (c.args.address % 4096)) (first_count (in_two c.in-Ok.ensures c.in-Ok-permit_store.ensures c.requires.front c.requires.over c.requires.two_pages
+    c.lines_at-lines.ensures c.lines_at-more.ensures)))
+
+pub put_in_page-requires-clause-fits : goal.put_in_page-requires-clause-fits
+put_in_page-requires-clause-fits c =
     first_fits (in_two c.in-Ok.ensures c.in-Ok-permit_store.ensures c.requires.front c.requires.over c.requires.two_pages
     c.lines_at-lines.ensures c.lines_at-more.ensures)
     c.store_units-one.result c.store_units-two.result c.store_units-one.ensures.rise c.in_default.ensures
 
-pub bring_lines-requires-2-clause-there : goal.bring_lines-requires-2-clause-there
-bring_lines-requires-2-clause-there c =
+pub put_in_page-requires-2-clause-there : goal.put_in_page-requires-2-clause-there
+put_in_page-requires-2-clause-there c =
     second_there (in_two c.in-Ok.ensures c.in-Ok-permit_store.ensures c.requires.front c.requires.over c.requires.two_pages
     c.lines_at-lines.ensures c.lines_at-more.ensures)
-    (state_of c.bring_lines.new.pages) c.bring_lines.ensures.brought
+    (state_of c.put_in_page.new.pages) c.put_in_page.ensures.stored
 
-pub bring_lines-requires-2-clause-fits : goal.bring_lines-requires-2-clause-fits
-bring_lines-requires-2-clause-fits c =
+pub put_in_page-requires-2-clause-some : goal.put_in_page-requires-2-clause-some
+put_in_page-requires-2-clause-some c =
+    let count = rest_count (in_two c.in-Ok.ensures c.in-Ok-permit_store.ensures c.requires.front c.requires.over c.requires.two_pages
+    c.lines_at-lines.ensures c.lines_at-more.ensures) in omega (arith, count, c.requires.over)
+
+pub put_in_page-requires-2-clause-one_page : goal.put_in_page-requires-2-clause-one_page
+put_in_page-requires-2-clause-one_page c =
+    let count = rest_count (in_two c.in-Ok.ensures c.in-Ok-permit_store.ensures c.requires.front c.requires.over c.requires.two_pages
+    c.lines_at-lines.ensures c.lines_at-more.ensures) in omega (arith, count, c.requires.over, c.requires.front, c.requires.two_pages)
+
+pub put_in_page-requires-2-clause-under : goal.put_in_page-requires-2-clause-under
+put_in_page-requires-2-clause-under c =
+    let begins : 0 ≡ (c.args.address + c.args.front) % 4096 = omega (arith, c.requires.front) in
+    c.lines_at-more.ensures ∙ sym (ap (lines_under 0) (rest_count (in_two c.in-Ok.ensures c.in-Ok-permit_store.ensures c.requires.front c.requires.over c.requires.two_pages
+    c.lines_at-lines.ensures c.lines_at-more.ensures)))
+    ∙ ap (λ at. lines_under at (length (take (length c.args.bytes.now - c.args.front) (drop c.args.front c.args.bytes.now)))) begins
+
+pub put_in_page-requires-2-clause-fits : goal.put_in_page-requires-2-clause-fits
+put_in_page-requires-2-clause-fits c =
     second_fits (in_two c.in-Ok.ensures c.in-Ok-permit_store.ensures c.requires.front c.requires.over c.requires.two_pages
     c.lines_at-lines.ensures c.lines_at-more.ensures)
-    (state_of c.bring_lines.new.pages) c.store_units-one.result c.store_units-two.result c.bring_lines.ensures.brought
+    (state_of c.put_in_page.new.pages) c.put_in_page.ensures.stored c.store_units-one.result c.store_units-two.result
     c.store_units-one.ensures.rise c.store_units-two.ensures.rise c.in_default.ensures
-
-pub fill_page-requires-clause-there : goal.fill_page-requires-clause-there
-fill_page-requires-clause-there c =
-    fill_there (in_two c.in-Ok.ensures c.in-Ok-permit_store.ensures c.requires.front c.requires.over c.requires.two_pages
-    c.lines_at-lines.ensures c.lines_at-more.ensures)
-    (state_of c.bring_lines.new.pages) (state_of c.bring_lines-2.new.pages) c.bring_lines.ensures.brought c.bring_lines-2.ensures.brought
-
-pub fill_page-requires-clause-writable : goal.fill_page-requires-clause-writable
-fill_page-requires-clause-writable c =
-    fill_writable (in_two c.in-Ok.ensures c.in-Ok-permit_store.ensures c.requires.front c.requires.over c.requires.two_pages
-    c.lines_at-lines.ensures c.lines_at-more.ensures)
-    (state_of c.bring_lines.new.pages) (state_of c.bring_lines-2.new.pages) c.bring_lines.ensures.brought c.bring_lines-2.ensures.brought
-
-pub fill_page-requires-2-clause-there : goal.fill_page-requires-2-clause-there
-fill_page-requires-2-clause-there c =
-    fill_there_too (in_two c.in-Ok.ensures c.in-Ok-permit_store.ensures c.requires.front c.requires.over c.requires.two_pages
-    c.lines_at-lines.ensures c.lines_at-more.ensures)
-    (state_of c.bring_lines.new.pages) (state_of c.bring_lines-2.new.pages) c.bring_lines.ensures.brought c.bring_lines-2.ensures.brought (state_of c.fill_page.new.pages) c.fill_page.ensures
-
-pub fill_page-requires-2-clause-writable : goal.fill_page-requires-2-clause-writable
-fill_page-requires-2-clause-writable c =
-    fill_writable_too (in_two c.in-Ok.ensures c.in-Ok-permit_store.ensures c.requires.front c.requires.over c.requires.two_pages
-    c.lines_at-lines.ensures c.lines_at-more.ensures)
-    (state_of c.bring_lines.new.pages) (state_of c.bring_lines-2.new.pages) c.bring_lines.ensures.brought c.bring_lines-2.ensures.brought (state_of c.fill_page.new.pages) c.fill_page.ensures
 
 pub returns-clause-stores : goal.returns-clause-stores
 returns-clause-stores c =
     two_stored (in_two c.in-Ok.ensures c.in-Ok-permit_store.ensures c.requires.front c.requires.over c.requires.two_pages
     c.lines_at-lines.ensures c.lines_at-more.ensures)
-    (state_of c.bring_lines.new.pages) (state_of c.bring_lines-2.new.pages) c.bring_lines.ensures.brought c.bring_lines-2.ensures.brought (state_of c.fill_page.new.pages) c.fill_page.ensures
-    (state_of c.fill_page-2.new.pages) c.fill_page-2.ensures
-
-pub returns-clause-held : goal.returns-clause-held
-returns-clause-held c =
-    filled_true (state_of c.fill_page.new.pages) (state_of c.fill_page-2.new.pages) c.args.space _ _ c.bring_lines-2.new.cache c.fill_page-2.ensures
-    (filled_true (state_of c.bring_lines-2.new.pages) (state_of c.fill_page.new.pages) c.args.space _ _ c.bring_lines-2.new.cache c.fill_page.ensures
-    c.bring_lines-2.ensures.held)
+    (state_of c.put_in_page.new.pages) c.put_in_page.ensures.stored (state_of c.put_in_page-2.new.pages) c.put_in_page-2.ensures.stored

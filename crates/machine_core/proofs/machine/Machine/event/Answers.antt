@@ -1,5 +1,5 @@
 use Rattle.std.proofs.Common.{◌∙◌}
-use Rattle.rv_execute.specs.declared.outcome.Outcome.TheVariants.{Asked, Fault, Full, Stepped}
+use Rattle.rv_execute.specs.declared.outcome.Outcome.TheVariants.{Fault, Full, Stepped}
 use Rattle.ovl_io.specs.declared.turn.Turn.TheVariants as turn
 use Rattle.machine_core.specs.Ample.{amply_taken}
 use Rattle.machine_core.proofs.Eventing.{asked_answers, asked_stands, law_at, still_asks, turn_answers, turn_stands}

@@ -1,4 +1,4 @@
-use Rattle.std.proofs.Common.{subst, sym, ◌∙◌}
+use Rattle.std.proofs.Common.{subst, ◌∙◌}
 use Rattle.std.specs.FinSet.{empty}
 use Rattle.machine_core.specs.Machine.{StandsFor}
 use Rattle.machine_core.specs.Turns.{guest_at}

@@ -1,4 +1,4 @@
-use Rattle.std.proofs.Common.{cond, sym, ap, subst, ◌∙◌}
+use Rattle.std.proofs.Common.{cond, sym, subst, ◌∙◌}
 use Rattle.machine_core.specs.Machine.{StandsFor}
 use Rattle.machine_core.specs.Turns.{after_turn}
 use Rattle.machine_core.proofs.Plays.{spaces_kept}

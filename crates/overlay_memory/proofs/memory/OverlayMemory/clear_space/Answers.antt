@@ -1,5 +1,5 @@
 use Rattle.overlay_pages.specs.View as seen
-use Rattle.overlay_memory.specs.View.{view_of}
+use Rattle.overlay_memory.specs.View.{cached_view}
 use Rattle.overlay_memory.proofs.Truths.{emptied_translated, flushed_lists, with_cache}
 use Rattle.overlay_memory.proofs.Fronting.{none_known}
 use Rattle.overlay_memory.proofs.memory.OverlayMemory.clear_space.Goals as goal
@@ -13,4 +13,4 @@ invariant_of-self c = (
 
 pub returns-clause-translations : goal.returns-clause-translations
 returns-clause-translations c =
-    flushed_lists c.args.space (view_of c.self.inside.pages c.self.inside.cache) c.args.self.now c.flush.new.self c.self.view_is c.flush.ensures.flushed
+    flushed_lists c.args.space (cached_view c.self.inside.pages c.self.inside.cache) c.args.self.now c.flush.new.self c.self.view_is c.flush.ensures.flushed

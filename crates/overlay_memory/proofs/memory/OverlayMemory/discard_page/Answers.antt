@@ -1,7 +1,7 @@
 use Rattle.std.proofs.Common.{ap, ◌∙◌}
 use Rattle.std.specs.Prelude.{is_some}
 use Rattle.overlay_pages.specs.View as seen
-use Rattle.overlay_memory.specs.View.{state_of, view_of}
+use Rattle.overlay_memory.specs.View.{state_of, cached_view}
 use Rattle.overlay_pages.specs.Changes.{discarded}
 use Rattle.space_maps.specs.Spaces.{page_in}
 use Rattle.overlay_memory.proofs.Truths.{flushed_lists, altered_translated, with_cache}
@@ -18,4 +18,4 @@ invariant_of-self c = (
 
 pub returns-clause-translations : goal.returns-clause-translations
 returns-clause-translations c =
-    flushed_lists c.args.space (view_of c.self.inside.pages c.self.inside.cache) c.args.self.now c.flush.new.self c.self.view_is c.flush.ensures.flushed
+    flushed_lists c.args.space (cached_view c.self.inside.pages c.self.inside.cache) c.args.self.now c.flush.new.self c.self.view_is c.flush.ensures.flushed

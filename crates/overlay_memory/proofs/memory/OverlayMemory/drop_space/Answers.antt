@@ -1,6 +1,6 @@
 use Rattle.std.proofs.Common.{ap, ◌∙◌}
 use Rattle.overlay_pages.specs.View as seen
-use Rattle.overlay_memory.specs.View.{state_of, view_of}
+use Rattle.overlay_memory.specs.View.{state_of, cached_view}
 use Rattle.space_maps.specs.Spaces.{space_in}
 use Rattle.overlay_memory.proofs.Truths.{cut_translated, flushed_lists, nothing_flushed, with_cache}
 use Rattle.overlay_memory.proofs.Fronting.{none_known}
@@ -16,9 +16,9 @@ invariant_of-self c = (
 
 pub returns-clause-translations : goal.returns-clause-translations
 returns-clause-translations c =
-    flushed_lists c.args.space (view_of c.self.inside.pages c.self.inside.cache) c.args.self.now c.flush.new.self c.self.view_is c.flush.ensures.flushed
+    flushed_lists c.args.space (cached_view c.self.inside.pages c.self.inside.cache) c.args.self.now c.flush.new.self c.self.view_is c.flush.ensures.flushed
 
 pub returns-clause-none : goal.returns-clause-none
 returns-clause-none c = λ none.
-    nothing_flushed c.args.space (view_of c.self.inside.pages c.self.inside.cache) c.args.self.now c.flush.new.self c.self.view_is c.flush.ensures.flushed
+    nothing_flushed c.args.space (cached_view c.self.inside.pages c.self.inside.cache) c.args.self.now c.flush.new.self c.self.view_is c.flush.ensures.flushed
     c.flush.ensures.formed (ap (λ m. (space_in (state_of m) c.args.space).pages) c.self.view_is ∙ none) c.self.invariant.0.entries

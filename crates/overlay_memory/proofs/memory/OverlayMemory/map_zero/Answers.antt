@@ -1,6 +1,6 @@
 use Rattle.std.proofs.Common.{ap, ◌∙◌}
 use Rattle.overlay_pages.specs.View as seen
-use Rattle.overlay_memory.specs.View.{state_of, view_of}
+use Rattle.overlay_memory.specs.View.{state_of, cached_view}
 use Rattle.space_maps.specs.Spaces.{holds_space, space_in}
 use Rattle.overlay_memory.proofs.Truths.{flushed_lists, same_translated, with_cache, zeros_translated}
 use Rattle.overlay_memory.proofs.Fronting.{none_known}
@@ -17,7 +17,7 @@ invariant_of-self c = (
 
 pub returns-in-Ok-clause-translations : goal.returns-in-Ok-clause-translations
 returns-in-Ok-clause-translations c =
-    flushed_lists c.args.space (view_of c.self.inside.pages c.self.inside.cache) c.args.self.now c.flush.new.self c.self.view_is c.flush.ensures.flushed
+    flushed_lists c.args.space (cached_view c.self.inside.pages c.self.inside.cache) c.args.self.now c.flush.new.self c.self.view_is c.flush.ensures.flushed
 
 pub invariant_of-self-in-Err : goal.invariant_of-self-in-Err
 invariant_of-self-in-Err c = (
