@@ -2,7 +2,6 @@
 
 ghost use Rattle.std.specs.Prelude.{◌≡◌, ◌<◌, ◌≤◌, ◌%◌, ℕ, IsTrue, None};
 ghost use Rattle.ovl_io.specs.Memory.{Memory};
-ghost use Rattle.rv_decode.specs.Table.{is_base};
 ghost use Rattle.rv_execute.specs.Registers.{next, with_register};
 ghost use Rattle.rv_execute.specs.Calls.{is_count, Performs};
 ghost use Rattle.rv_execute.specs.Execution.{action_on, count_of, effect, execution, Executed, extended, full_in, ReadsNumber, rv64i, word_effect};
@@ -190,7 +189,6 @@ fn go_to(regs: &mut Regs, target: u64) -> Outcome
 /// What an instruction of RV64I does on these registers. `rs1` and `rs2` are below 32.
 #[inline(always)]
 pub fn action_on(i: &Instr, regs: &Regs) -> Action
-    requires base { IsTrue (is_base i.now.name) }
     requires rs1 { i.now.rs1 < 32 }
     requires rs2 { i.now.rs2 < 32 }
     ensures { result ≡ action_on i.now regs.now }

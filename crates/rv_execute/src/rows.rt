@@ -1,7 +1,6 @@
 //! What each row of the instruction table does, a line a row.
 
-ghost use Rattle.std.specs.Prelude.{◌≡◌, IsTrue};
-ghost use Rattle.rv_decode.specs.Table.{is_base};
+ghost use Rattle.std.specs.Prelude.{◌≡◌};
 ghost use Rattle.rv_execute.specs.Rows.{action_of, branch};
 
 use crate::action::{Action, Extension, Size};
@@ -26,7 +25,6 @@ fn branch(holds: bool, target: u64) -> Action
 /// address of the instruction.
 #[inline(always)]
 pub(crate) fn action_of(name: Name, a: u64, b: u64, i: u64, pc: u64) -> Action
-    requires { IsTrue (is_base name) }
     ensures { result ≡ action_of name a b i pc }
 {
     match name {
@@ -82,6 +80,19 @@ pub(crate) fn action_of(name: Name, a: u64, b: u64, i: u64, pc: u64) -> Action
         Name::Fence => Action::Next,
         Name::Ecall => Action::Ask,
         Name::Ebreak => Action::Stop,
-        _ => unreachable!(),
+        // the names of extension M, which have no row in this table
+        Name::Mul
+        | Name::Mulh
+        | Name::Mulhsu
+        | Name::Mulhu
+        | Name::Div
+        | Name::Divu
+        | Name::Rem
+        | Name::Remu
+        | Name::Mulw
+        | Name::Divw
+        | Name::Divuw
+        | Name::Remw
+        | Name::Remuw => Action::Next,
     }
 }
