@@ -9,7 +9,7 @@ use Rattle.machine_core.specs.declared.process.Process as declared
 use Rattle.ledger.specs.Events.{Event}
 use Rattle.overlay_pages.specs.Changes.{limit_of as limit_in}
 use Rattle.overlay_memory.specs.View.{TranslatedView}
-use Rattle.overlay_memory.specs.Room.{FitsAfter, IsFullAt, units_after}
+use Rattle.overlay_memory.specs.Room.{FitsAfter, IsFullAt, event_units}
 use Rattle.machine_core.specs.Machine.{AreLike, Machine, unit_limit, spaces_of, whole_in, wholes, with_memory}
 use Rattle.machine_core.specs.Laws.{processes_at}
 use Rattle.machine_core.specs.Load.{IsAsBefore}
@@ -44,7 +44,7 @@ is_over limit needed h = grind (arith, nat_tests)
 
 pub fits : (e : Event) (old : Machine) → FitsAfter e (spaces_of old) → is_event_full e (wholes old) ≡ false
 unfolding ledger_by
-fits e old within = not_over (limit_in (spaces_of old)) (units_after e (spaces_of old)) within
+fits e old within = not_over (limit_in (spaces_of old)) (event_units e (spaces_of old)) within
 
 pub record IsShort (e : Event) (old : Machine) (memory : TranslatedView) (needed limit : ℕ) : Type 0 where
   pub needed_is : needed ≡ event_needs e (wholes old)
@@ -52,7 +52,7 @@ pub record IsShort (e : Event) (old : Machine) (memory : TranslatedView) (needed
   pub full : is_event_full e (wholes old) ≡ true
   pub same : with_memory old memory ≡ old
 
-pub is_short : (e : Event) (old : Machine) (memory : TranslatedView) (needed limit : ℕ) → IsFullAt old.memory memory (units_after e (spaces_of old)) needed limit
+pub is_short : (e : Event) (old : Machine) (memory : TranslatedView) (needed limit : ℕ) → IsFullAt old.memory memory (event_units e (spaces_of old)) needed limit
     → IsShort e old memory needed limit
 unfolding ledger_by
 is_short e old memory needed limit full = record {

@@ -3,10 +3,8 @@ use Rattle.std.specs.Prelude.{Ok, Err}
 use Rattle.std.specs.Option.{is_some, option_map}
 use Rattle.std.specs.FinMap.{get, insert}
 use Rattle.sizes.specs.declared.TheConstants.{FRAME_UNITS, PAGE_BYTES}
-use Rattle.ledger.specs.Alike.{AreAlike}
-use Rattle.ledger.specs.AlikeLaws.{alike_itself}
+use Rattle.ledger.specs.AlikeUnits.{units_alike}
 use Rattle.ledger.specs.Events.{Event, ledger_after}
-use Rattle.ledger.specs.Ledger.{Ledger}
 use Rattle.ledger.specs.Events as event
 use Rattle.ledger.specs.Touched.{touched}
 use Rattle.ledger.specs.Units.{units}
@@ -85,7 +83,7 @@ module _ (p : ℕ) (process : declared.Process) (old : Machine) (memory : Transl
         (wholes_left stored None old (insert (processes_of old) p left)))
         (put_again p process old memory there)
         (wholes_are p process old memory there stored process left whole_is s.others None
-        (subst (AreAlike (books (state_of memory))) s.ledger (alike_itself (books (state_of memory)))) s.frames lists)
+        s.ledger s.frames lists)
 
     poked_stays : KeepsSession old mid
     poked_stays =
@@ -96,7 +94,7 @@ module _ (p : ℕ) (process : declared.Process) (old : Machine) (memory : Transl
     within : Fits (state_of memory) → FitsAfter stored (spaces_of old)
     within enough =
         subst (λ n. units (ledger_after stored (books (spaces_of old))) ≤ FRAME_UNITS * n) s.frames
-        (subst (λ (b : Ledger). units b ≤ limit_of (state_of memory)) s.ledger enough)
+        (subst (λ n. n ≤ limit_of (state_of memory)) (units_alike _ _ s.ledger) enough)
 
   pub poked : Stores old.memory.pages memory.pages p address bytes (Ok tt) → translations_of memory ≡ lists_of old → Fits (state_of memory) → MachineGives poking old Done mid
   poked (allowed, s) lists enough =

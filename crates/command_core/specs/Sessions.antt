@@ -20,8 +20,8 @@ abbrev pub OwnSpaces : Machine → Type 0
 OwnSpaces machine = (p : ℕ) → is_some (get machine.processes p) ≡ true → has_space machine p ≡ true
 
 -- no page awaits being shared
-abbrev pub NoneAwaits : Machine → Type 0
-NoneAwaits machine = (p : ℕ) → (space_in (spaces_of machine) p).awaiting ≡ empty
+abbrev pub NoPageAwaits : Machine → Type 0
+NoPageAwaits machine = (p : ℕ) → (space_in (spaces_of machine) p).awaiting ≡ empty
 
 -- a space that is there and has no process, as that of a checkpoint
 abbrev pub HasNoProcess : Machine → ℕ → Type 0
@@ -40,7 +40,7 @@ pub record IsSession (machine : Machine) (spaces : List ℕ) (drawn : ℕ) : Typ
   pub no_space : (p : ℕ) → drawn < p → has_space machine p ≡ false
   pub no_process : (p : ℕ) → drawn < p → get machine.processes p ≡ None
   pub own_space : OwnSpaces machine
-  pub none_awaits : NoneAwaits machine
+  pub none_awaits : NoPageAwaits machine
   pub kept : (p : ℕ) → is_marked machine p ≡ has_saved machine p
   pub free : AllByRecursion (HasNoProcess machine) spaces
   pub rise : RiseTo 0 spaces drawn

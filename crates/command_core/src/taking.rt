@@ -7,7 +7,7 @@ ghost use Rattle.report_text.specs.Answers.{HasPort};
 ghost use Rattle.machine_core.specs.Machine.{AreLike, KeepsPlaces, StaysBut, has_space, is_running, spaces_of, wholes};
 ghost use Rattle.machine_core.specs.Executions.{after_executions, came_to_last, steps_to};
 ghost use Rattle.machine_core.specs.Turns.{after_asked, after_turn, turn_asked, turn_of};
-ghost use Rattle.command_core.specs.Sessions.{KeepsFree, NoneAwaits, OwnSpaces};
+ghost use Rattle.command_core.specs.Sessions.{KeepsFree, NoPageAwaits, OwnSpaces};
 ghost use Rattle.breakpoints.specs.Breakpoints.{addresses_of};
 ghost use Rattle.command_core.specs.Turns.{EndsRun, FinishesTurn, IsTurnLine, Speaks, TakesTurn, break_among, break_of, ending, ending_by, found_before, last_break, lines_left, next_of, rest_of};
 
@@ -250,7 +250,7 @@ pub(crate) fn next_turn(
     running: &mut Running,
 ) -> Option<(u16, Turn)>
     requires spaces { OwnSpaces machine.old }
-    requires awaits { NoneAwaits machine.old }
+    requires awaits { NoPageAwaits machine.old }
     ensures turn { TakesTurn breakpoints.now
         (wholes machine.old) running.old result (wholes machine.new) running.new }
     ensures still { result ≡ None → machine.new ≡ machine.old }
@@ -288,7 +288,7 @@ fn quiet_turns(
     line: &mut Line,
 ) -> bool
     requires spaces { OwnSpaces machine.old }
-    requires awaits { NoneAwaits machine.old }
+    requires awaits { NoPageAwaits machine.old }
     requires goes { running.old.stop ≡ None }
     ensures says { result ≡ true → Speaks breakpoints.now
         (wholes machine.old) running.old line.new.items (wholes machine.new) running.new }
@@ -329,7 +329,7 @@ pub(crate) fn turns_to_line(
     line: &mut Line,
 ) -> bool
     requires spaces { OwnSpaces machine.old }
-    requires awaits { NoneAwaits machine.old }
+    requires awaits { NoPageAwaits machine.old }
     ensures says { result ≡ true → Speaks breakpoints.now
         (wholes machine.old) running.old line.new.items (wholes machine.new) running.new }
     ensures one { result ≡ true → IsTurnLine line.new.items }

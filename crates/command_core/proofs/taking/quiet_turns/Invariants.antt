@@ -1,6 +1,6 @@
 use Rattle.std.proofs.Common.{◌≡◌, ◌≤◌, [], None}
 use Rattle.machine_core.specs.Machine.{KeepsPlaces, wholes}
-use Rattle.command_core.specs.Sessions.{KeepsFree, NoneAwaits, OwnSpaces}
+use Rattle.command_core.specs.Sessions.{KeepsFree, NoPageAwaits, OwnSpaces}
 use Rattle.command_core.specs.Turns.{Speaks, lines_left}
 use Rattle.command_core.proofs.taking.quiet_turns.Given as goal
 
@@ -14,7 +14,7 @@ invariant-quiet l = record {
   kept : KeepsPlaces l.fn.machine l.machine;
   free : KeepsFree l.fn.machine l.machine;
   spaces : OwnSpaces l.machine;
-  awaits : NoneAwaits l.machine;
+  awaits : NoPageAwaits l.machine;
 }
 
 abbrev pub decreases-quiet : goal.decreases-quiet
