@@ -100,7 +100,8 @@ impl Addresses {
     }
 
     /// How many words there are from that of an address on, at most so many, all in its 256 bytes, before one behind the first in which
-    /// an address may lie. Costs a few steps.
+    /// an address may lie. It may tell fewer than there are, since marks may be those of other pieces, and no caller needs the most.
+    /// Costs a few steps.
     #[inline]
     pub fn words_past(&self, address: u64, most: u32) -> u32
         requires some { 0 < most }

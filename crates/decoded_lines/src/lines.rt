@@ -61,7 +61,7 @@ fn zero_lines(alloc: Global) -> Result<Vec<[u8; 64]>, AllocError>
 }
 
 impl<D: Decoder> DecodedLines<D> {
-    /// All lines are zero. Takes all the memory that they ever need, or answers the want of it.
+    /// Some lines, of which no clause says which. Takes all the memory that lines ever need, or answers the want of it.
     pub fn new(alloc: Global) -> Result<DecodedLines<D>, AllocError> {
         let lines = zero_lines(alloc)?;
         let instructions = vec![in alloc; D::decode(0); LINE_WORDS * KEPT_LINES]?;
