@@ -10,7 +10,7 @@ use Rattle.rv_execute.specs.Registers.{Registers}
 use Rattle.machine_core.specs.Process.{Process, Whole}
 use Rattle.ledger.specs.Ledger.{Holding, Ledger}
 use Rattle.machine_core.specs.Machine.{Processes, Wholes}
-use Rattle.machine_core.specs.Codes.{memory_code}
+use Rattle.machine_core.specs.Codes.{bytes_code}
 use Rattle.translation_cache.specs.Bare.{BareTranslations}
 use Rattle.translation_cache.specs.Codes.{translations_code}
 use base.Stored.{coded_unit}
@@ -25,13 +25,13 @@ registers_code = code_by (ℕ × List ℕ) (coded× coded_ℕ (coded_list coded_
 
 abbrev pub whole_code : Coded Whole
 whole_code =
-    code_by (Registers × (ProcessState × Memory)) (coded× registers_code (coded× state.the_row.coded memory_code)) (λ w. (w.registers, (w.state, w.memory)))
+    code_by (Registers × (ProcessState × Memory)) (coded× registers_code (coded× state.the_row.coded bytes_code)) (λ w. (w.registers, (w.state, w.memory)))
     (λ t. record { registers = t.0; state = t.1.0; memory = t.1.1 }) (λ _. refl)
 
 abbrev pub process_code : Coded Process
 process_code =
     code_by (Registers × (ProcessState × (Memory × Option Whole)))
-    (coded× registers_code (coded× state.the_row.coded (coded× memory_code (coded_option whole_code))))
+    (coded× registers_code (coded× state.the_row.coded (coded× bytes_code (coded_option whole_code))))
     (λ p. (p.registers, (p.state, (p.memory, p.kept))))
     (λ t. record { registers = t.0; state = t.1.0; memory = t.1.1.0; kept = t.1.1.1 }) (λ _. refl)
 
@@ -66,7 +66,7 @@ state_code =
     (λ t. record { wholes = t.0; checkpoints = t.1.0; breakpoints = t.1.1.0; drawn = t.1.1.1 }) (λ _. refl)
 
 abbrev pub bases_code : Coded Bases
-bases_code = code coded_ℕ memory_code
+bases_code = code coded_ℕ bytes_code
 
 abbrev pub modes_code : Coded Modes
 modes_code = code_by (ℕ × ℕ) (coded× coded_ℕ coded_ℕ) (λ m. (m.frames, m.quantum)) (λ t. record { frames = t.0; quantum = t.1 }) (λ _. refl)
