@@ -88,6 +88,7 @@ fn compose(rt: &impl Abort, store: &mut SegmentStore, block: Block, from: u32, t
     store.compose_scratch(from, segment.bits, &mut page);
     store.compose_frame(from, segment.bits, to);
     for line in 0..64u8 {
+        assert!(rt; to < store.frames());
         assert_eq!(rt; page[line as usize], *store.frame_line(to, line));
     }
 }
