@@ -78,7 +78,7 @@ fn finish_turn(machine: &mut Machine, p: u16, outcome: Outcome) -> Turn
 /// Takes turns of a running process, whose turn is next: until one has a line, which it sets, and answers true; or until one
 /// reaches a breakpoint; or as many as there are until another's turn may be next. What the last one asked for is done before it is
 /// counted; one for which there aren't units enough isn't counted, and ends the run.
-#[inline]
+#[inline(always)]
 fn take_turns(
     machine: &mut Machine,
     breakpoints: &Breakpoints,
