@@ -52,10 +52,6 @@ def outside(line):
     return (end, end + 1), f"word {2 + most} isn't there: expected is {', or '.join(expected)}, as in {texts}"
 
 
-def printable(text):
-    return "".join(c if " " <= c <= "~" else " " if c == "\t" else "?" for c in text)
-
-
 def missing(name, folder):
     """Why a file can't be had, or None."""
     path = os.path.join(folder, name)
@@ -85,8 +81,8 @@ def check(name, script, folder):
         form = line.form()
         if form is None:
             (begin, end), what = outside(line)
-            text = printable(line.text)
-            print(f"{name}:{line.number}: outside: {printable(what)}")
+            text = scripts.printable(line.text)
+            print(f"{name}:{line.number}: outside: {scripts.printable(what)}")
             if len(text) <= 150:
                 print(f"    {text}\n    {' ' * begin}{'^' * max(1, end - begin)}")
             wrong += 1

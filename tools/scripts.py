@@ -37,6 +37,11 @@ MOST_SCRIPT_LINES = CONSTANTS["MOST_SCRIPT_LINES"]
 MOST_FILE_BYTES = CONSTANTS["MOST_FILE_BYTES"]
 
 
+def printable(text):
+    """A text as it may be shown: a blank for each tab, and `?` for what isn't printable ASCII."""
+    return "".join(c if " " <= c <= "~" else " " if c == "\t" else "?" for c in text)
+
+
 def number_in(word):
     """The number that a word spells, or None. One of more than 30 digits, leading zeros aside, is taken as one of 30: both are beyond every range."""
     base, digits, most = (16, word[2:], string.hexdigits) if word[:2] == "0x" else (10, word, string.digits)

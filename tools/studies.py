@@ -12,6 +12,7 @@ import sys
 from concurrent.futures import ThreadPoolExecutor
 
 import scripts
+from scripts import printable
 
 TURNS = ("run", "step", "exec")
 PRINTS = ("list", "stats", "regs", "dump", "disasm")
@@ -94,10 +95,6 @@ def output(path):
 def folder_of(path):
     """The folder in which a script runs where no other is named."""
     return "." if path == "-" else os.path.dirname(path) or "."
-
-
-def printable(text):
-    return "".join(c if " " <= c <= "~" else " " if c == "\t" else "?" for c in text)
 
 
 def command(text, number=0):
