@@ -1,4 +1,4 @@
-use Rattle.std.specs.Prelude.{◌≡◌, ℕ, zero, suc, ◌+◌, ◌-◌, ◌==◌, ◌&&◌, true, List, [], ◌∷◌, ◌++◌, flat_map, min, Option, Some, None, if◌then◌else◌}
+use Rattle.std.specs.Prelude.{◌≡◌, ℕ, zero, suc, ◌+◌, ◌-◌, ◌==◌, ◌&&◌, Bool, true, List, [], ◌∷◌, ◌++◌, flat_map, min, Option, Some, None, if◌then◌else◌}
 use Rattle.std.specs.Option.{option_and_then, option_map_or, option_or}
 use Rattle.std.specs.FinMap.{get}
 use Rattle.std.specs.FinSet.{contains}
@@ -208,6 +208,15 @@ abbrev pub FinishesTurn : ℕ → Outcome → Wholes → Turn → Wholes → Typ
 FinishesTurn p outcome executed turn new =
     (old : Wholes) → is_running old p ≡ true → came_to old p ≡ outcome → AreLike executed (after_execution old p)
     → (turn ≡ turn_of old p) × AreLike new (after_turn old p)
+
+-- The end of a stretch of turns, of which the last execution was no step: the turn that it came to is counted, and has its line.
+pub record EndsStretch (p : ℕ) (outcome : Outcome) (executed : Wholes) (old : InRun) (new : Wholes) (after : InRun) (spoke : Bool)
+    (line : List ℕ) : Type 0 where
+  pub turn : Turn
+  pub finished : FinishesTurn p outcome executed turn new
+  pub counted : after ≡ run_counted turn p old.run
+  pub has : spoke ≡ has_turn_line turn
+  pub text : line ≡ turn_text p turn
 
 -- What is left of a run in progress: nothing, where an ending was found.
 abbrev pub left_by : Option Stop → Breaks → Wholes → Progress → Ran Wholes

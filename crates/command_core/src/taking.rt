@@ -9,7 +9,7 @@ ghost use Rattle.machine_core.specs.Executions.{after_executions, came_to_last, 
 ghost use Rattle.machine_core.specs.Turns.{after_asked, after_turn, turn_asked, turn_of};
 ghost use Rattle.command_core.specs.Sessions.{KeepsFree, NoPageAwaits, OwnSpaces};
 ghost use Rattle.breakpoints.specs.Breakpoints.{addresses_of};
-ghost use Rattle.command_core.specs.Turns.{EndsRun, FinishesTurn, IsTurnLine, Speaks, TakesTurn, break_among, break_of, ending, ending_by, found_before, last_break, lines_left, next_of, rest_of};
+ghost use Rattle.command_core.specs.Turns.{EndsRun, EndsStretch, FinishesTurn, IsTurnLine, Speaks, TakesTurn, break_among, break_of, ending, ending_by, found_before, last_break, lines_left, next_of, rest_of};
 
 use crate::turns::{Order, Running};
 use breakpoints::{Addresses, Breakpoints};
@@ -57,7 +57,7 @@ fn answer_request(machine: &mut Machine, p: u16) -> Turn
 }
 
 /// The rest of a turn of a process whose execution came to this: what it asked for, where it did. Answers what came of the turn.
-#[inline(never)]
+#[inline]
 fn finish_turn(machine: &mut Machine, p: u16, outcome: Outcome) -> Turn
     requires runs { outcome ≡ Outcome.Asked → is_running (wholes machine.old) p ≡ true }
     requires there { has_space machine.old p ≡ true }
@@ -75,10 +75,36 @@ fn finish_turn(machine: &mut Machine, p: u16, outcome: Outcome) -> Turn
     }
 }
 
+/// What follows the last execution of a stretch, which was no step: what the process asked for is done, the turn is counted, and its
+/// line is set, where it has one. It stands apart, since a turn has room for all that a process may write.
+#[inline(never)]
+fn end_stretch(
+    machine: &mut Machine,
+    running: &mut Running,
+    p: u16,
+    outcome: Outcome,
+    line: &mut Line,
+) -> bool
+    requires runs { outcome ≡ Outcome.Asked → is_running (wholes machine.old) p ≡ true }
+    requires there { has_space machine.old p ≡ true }
+    requires none_awaits { (space_in (spaces_of machine.old) p).awaiting ≡ empty }
+    requires left { running.old.run.taken < running.old.run.turns }
+    requires goes { running.old.stop ≡ None }
+    ensures ends { EndsStretch p outcome
+        (wholes machine.old) running.old (wholes machine.new) running.new result line.new.items }
+    ensures within { running.new.run.taken ≤ running.new.run.turns }
+    ensures kept { KeepsPlaces machine.old machine.new }
+    ensures free { KeepsFree machine.old machine.new }
+{
+    let turn = finish_turn(machine, p, outcome);
+    running.count(p, &turn);
+    turn_line(p, &turn, line)
+}
+
 /// Takes turns of a running process, whose turn is next: until one has a line, which it sets, and answers true; or until one
 /// reaches a breakpoint; or as many as there are until another's turn may be next. What the last one asked for is done before it is
 /// counted; one for which there aren't units enough isn't counted, and ends the run.
-#[inline(always)]
+#[inline]
 fn take_turns(
     machine: &mut Machine,
     breakpoints: &Breakpoints,
@@ -110,9 +136,7 @@ fn take_turns(
     if let Outcome::Stepped = outcome {
         return false;
     }
-    let turn = finish_turn(machine, p, outcome);
-    running.count(p, &turn);
-    turn_line(p, &turn, line)
+    end_stretch(machine, running, p, outcome, line)
 }
 
 /// The process whose turn is next.

@@ -42,64 +42,66 @@ returns-in-Stepped-clause-free c =
 
 -- a last turn that is no step
 
-pub finish_turn-turn-requires-clause-runs : goal.finish_turn-turn-requires-clause-runs
-finish_turn-turn-requires-clause-runs c =
+pub end_stretch-requires-clause-runs : goal.end_stretch-requires-clause-runs
+end_stretch-requires-clause-runs c =
     let done = c.execute_up_to-steps in
     asked_runs c.args.breakpoints.now (wholes c.args.machine.now) c.args.p done.result.0 c.args.running.now.run done.result.1 (wholes done.new.machine)
     (last_turn c.args.breakpoints.now (wholes c.args.machine.now) c.args.p c.stretch.result done.result.0 c.args.running.now.run c.requires.runs c.requires.next c.requires.unbroken c.stretch.ensures.stretch done.ensures.steps
     done.result.1 (wholes done.new.machine) done.ensures.outcome c.in_default.not-Stepped done.ensures.after)
 
-pub finish_turn-turn-requires-clause-there : goal.finish_turn-turn-requires-clause-there
-finish_turn-turn-requires-clause-there c = c.execute_up_to-steps.ensures.places.spaces c.args.p ∙ c.requires.there
+pub end_stretch-requires-clause-there : goal.end_stretch-requires-clause-there
+end_stretch-requires-clause-there c = c.execute_up_to-steps.ensures.places.spaces c.args.p ∙ c.requires.there
 
-pub finish_turn-turn-requires-clause-none_awaits : goal.finish_turn-turn-requires-clause-none_awaits
-finish_turn-turn-requires-clause-none_awaits c = c.execute_up_to-steps.ensures.places.awaiting c.args.p ∙ c.requires.none_awaits
+pub end_stretch-requires-clause-none_awaits : goal.end_stretch-requires-clause-none_awaits
+end_stretch-requires-clause-none_awaits c = c.execute_up_to-steps.ensures.places.awaiting c.args.p ∙ c.requires.none_awaits
 
-pub count-requires-clause-left : goal.count-requires-clause-left
-count-requires-clause-left c =
+pub end_stretch-requires-clause-left : goal.end_stretch-requires-clause-left
+end_stretch-requires-clause-left c =
     let done = c.execute_up_to-steps in
     let last = last_turn c.args.breakpoints.now (wholes c.args.machine.now) c.args.p c.stretch.result done.result.0 c.args.running.now.run c.requires.runs c.requires.next c.requires.unbroken c.stretch.ensures.stretch done.ensures.steps
     done.result.1 (wholes done.new.machine) done.ensures.outcome c.in_default.not-Stepped done.ensures.after in
     omega (arith, last.below, ap (λ (r : InRun). r.run.taken) c.took_turns.ensures.took, ap (λ (r : InRun). r.run.turns) c.took_turns.ensures.took)
 
-pub count-requires-clause-goes : goal.count-requires-clause-goes
-count-requires-clause-goes c = ap (λ (r : InRun). r.stop) c.took_turns.ensures.took ∙ c.requires.goes
+pub end_stretch-requires-clause-goes : goal.end_stretch-requires-clause-goes
+end_stretch-requires-clause-goes c = ap (λ (r : InRun). r.stop) c.took_turns.ensures.took ∙ c.requires.goes
 
 pub returns-clause-says : goal.returns-clause-says
 returns-clause-says c spoke =
     let done = c.execute_up_to-steps in
-    let turn = c.finish_turn-turn in
+    let end = c.end_stretch in
+    let ends = end.ensures.ends in
     let last = last_turn c.args.breakpoints.now (wholes c.args.machine.now) c.args.p c.stretch.result done.result.0 c.args.running.now.run c.requires.runs c.requires.next c.requires.unbroken c.stretch.ensures.stretch done.ensures.steps
     done.result.1 (wholes done.new.machine) done.ensures.outcome c.in_default.not-Stepped done.ensures.after in
-    speaks_by c.args.breakpoints.now (wholes c.args.machine.now) (wholes turn.new.machine) c.args.running.now c.count.new.self
-    (run_counted turn.result c.args.p (run_took done.result.0 c.args.p c.args.running.now.run)) c.turn_line.new.out.items (turn_text c.args.p turn.result) c.requires.goes
-    (c.count.ensures.counted ∙ ap (λ (r : InRun). run_counted turn.result c.args.p r.run) c.took_turns.ensures.took) c.turn_line.ensures.text
-    (says_last c.args.breakpoints.now (wholes c.args.machine.now) c.args.p done.result.0 c.args.running.now.run done.result.1 (wholes done.new.machine) (wholes turn.new.machine) turn.result last turn.ensures.turn)
+    speaks_by c.args.breakpoints.now (wholes c.args.machine.now) (wholes end.new.machine) c.args.running.now c.end_stretch.new.running
+    (run_counted ends.turn c.args.p (run_took done.result.0 c.args.p c.args.running.now.run)) end.new.line.items (turn_text c.args.p ends.turn) c.requires.goes
+    (c.end_stretch.ensures.ends.counted ∙ ap (λ (r : InRun). run_counted ends.turn c.args.p r.run) c.took_turns.ensures.took) c.end_stretch.ensures.ends.text
+    (says_last c.args.breakpoints.now (wholes c.args.machine.now) c.args.p done.result.0 c.args.running.now.run done.result.1 (wholes done.new.machine) (wholes end.new.machine) ends.turn last ends.finished)
 
 pub returns-clause-one : goal.returns-clause-one
-returns-clause-one c spoke = (c.args.p, c.finish_turn-turn.result, sym c.turn_line.ensures.has ∙ spoke, c.turn_line.ensures.text)
+returns-clause-one c spoke = (c.args.p, c.end_stretch.ensures.ends.turn, sym c.end_stretch.ensures.ends.has ∙ spoke, c.end_stretch.ensures.ends.text)
 
 pub returns-clause-quiet : goal.returns-clause-quiet
 returns-clause-quiet c silent =
     let done = c.execute_up_to-steps in
-    let turn = c.finish_turn-turn in
+    let end = c.end_stretch in
+    let ends = end.ensures.ends in
     let last = last_turn c.args.breakpoints.now (wholes c.args.machine.now) c.args.p c.stretch.result done.result.0 c.args.running.now.run c.requires.runs c.requires.next c.requires.unbroken c.stretch.ensures.stretch done.ensures.steps
     done.result.1 (wholes done.new.machine) done.ensures.outcome c.in_default.not-Stepped done.ensures.after in
-    speaks_by c.args.breakpoints.now (wholes c.args.machine.now) (wholes turn.new.machine) c.args.running.now c.count.new.self
-    (run_counted turn.result c.args.p (run_took done.result.0 c.args.p c.args.running.now.run)) [] (turn_text c.args.p turn.result) c.requires.goes
-    (c.count.ensures.counted ∙ ap (λ (r : InRun). run_counted turn.result c.args.p r.run) c.took_turns.ensures.took) (no_line c.args.p turn.result (sym c.turn_line.ensures.has ∙ silent))
-    (says_last c.args.breakpoints.now (wholes c.args.machine.now) c.args.p done.result.0 c.args.running.now.run done.result.1 (wholes done.new.machine) (wholes turn.new.machine) turn.result last turn.ensures.turn)
+    speaks_by c.args.breakpoints.now (wholes c.args.machine.now) (wholes end.new.machine) c.args.running.now c.end_stretch.new.running
+    (run_counted ends.turn c.args.p (run_took done.result.0 c.args.p c.args.running.now.run)) [] (turn_text c.args.p ends.turn) c.requires.goes
+    (c.end_stretch.ensures.ends.counted ∙ ap (λ (r : InRun). run_counted ends.turn c.args.p r.run) c.took_turns.ensures.took) (no_line c.args.p ends.turn (sym c.end_stretch.ensures.ends.has ∙ silent))
+    (says_last c.args.breakpoints.now (wholes c.args.machine.now) c.args.p done.result.0 c.args.running.now.run done.result.1 (wholes done.new.machine) (wholes end.new.machine) ends.turn last ends.finished)
 
 pub returns-clause-fewer : goal.returns-clause-fewer
 returns-clause-fewer c =
     let done = c.execute_up_to-steps in
     let last = last_turn c.args.breakpoints.now (wholes c.args.machine.now) c.args.p c.stretch.result done.result.0 c.args.running.now.run c.requires.runs c.requires.next c.requires.unbroken c.stretch.ensures.stretch done.ensures.steps
     done.result.1 (wholes done.new.machine) done.ensures.outcome c.in_default.not-Stepped done.ensures.after in
-    (fewer_counted c.args.p done.result.0 c.finish_turn-turn.result c.args.running.now c.count.new.self c.requires.goes last.below
-    (c.count.ensures.counted ∙ ap (λ (r : InRun). run_counted c.finish_turn-turn.result c.args.p r.run) c.took_turns.ensures.took)).0
+    (fewer_counted c.args.p done.result.0 c.end_stretch.ensures.ends.turn c.args.running.now c.end_stretch.new.running c.requires.goes last.below
+    (c.end_stretch.ensures.ends.counted ∙ ap (λ (r : InRun). run_counted c.end_stretch.ensures.ends.turn c.args.p r.run) c.took_turns.ensures.took)).0
 
 pub returns-clause-free : goal.returns-clause-free
 returns-clause-free c =
     let done = c.execute_up_to-steps in
-    free_then c.args.machine.now done.new.machine c.finish_turn-turn.new.machine done.ensures.places
-    (free_stays c.args.p c.args.machine.now done.new.machine done.ensures.others (process_there c.args.machine.now c.args.p c.requires.runs)) c.finish_turn-turn.ensures.free
+    free_then c.args.machine.now done.new.machine c.end_stretch.new.machine done.ensures.places
+    (free_stays c.args.p c.args.machine.now done.new.machine done.ensures.others (process_there c.args.machine.now c.args.p c.requires.runs)) c.end_stretch.ensures.free
