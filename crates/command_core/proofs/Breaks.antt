@@ -1,19 +1,19 @@
 use Rattle.std.proofs.Common.{◌≡◌, ℕ, ◌+◌, ◌<◌, ◌&&◌, Bool, true, false, cond, List, sym, ap, subst, ◌∙◌, refl, arith, Option, Some, None}
 use Rattle.std.specs.Borrow.{Bor}
-use Rattle.std.specs.Option.{option_and_then, option_copied, option_map_or, unwrap_or}
+use Rattle.std.specs.Option.{is_some, option_and_then, option_copied, option_map_or, unwrap_or}
 use Rattle.std.specs.FinMap.{get, insert, remove}
 use Rattle.std.specs.FinSet.{contains, contains-empty, empty, remove as without_address}
 use Rattle.std.specs.Ordering.{nat_cmp}
 use Rattle.number_maps.specs.Keys.{alike, by_key, get_other, get_same, removed_other, removed_same}
 use Rattle.breakpoints.specs.Breakpoints.{Addresses, Breaks, addresses_of, without_break}
 use Rattle.machine_core.specs.Process.{Process, runs}
-use Rattle.machine_core.specs.declared.process.Process as declared
 use Rattle.machine_core.specs.Machine.{Machine, Wholes}
 use Rattle.machine_core.specs.Turns.{Guest, with_guest}
 use Rattle.machine_core.specs.Executions.{is_at_stop, stops_in}
 use Rattle.report_text.specs.declared.answer.Stop.{Stop}
 use Rattle.report_text.specs.declared.answer.Stop.TheVariants.{Break}
-use Rattle.command_core.specs.Sessions.{IsSession, NoBreaksAbove}
+use Rattle.command_core.specs.Sessions.{AreBreaksOf, NoneGoes}
+use Rattle.command_core.proofs.Places.{not_free}
 use Rattle.command_core.specs.Turns.{Progress, break_at, break_of, last_break, run_after}
 
 -- Breakpoints: where turns stop, and what is left of them.
@@ -40,30 +40,29 @@ none_removed breaks p none = alike _ _ (λ q. by_key q p
     (λ same. removed_same breaks p q same ∙ sym (ap (get breaks) same ∙ none))
     (λ other. removed_other breaks p q other))
 
--- No number above those drawn has breakpoints: with one number more drawn, where a process gives up those that it has, and where one that
+-- What isn't the number of a process has no breakpoints: where no process goes, where one goes with those that it has, and where one that
 -- is there gets others.
-pub above_more : (breaks : Breaks) (drawn n : ℕ) → drawn < n → NoBreaksAbove drawn breaks → NoBreaksAbove n breaks
-above_more breaks drawn n more none p above = none p (omega (arith, more, above))
+pub breaks_kept : (old new : Machine) (breaks : Breaks) → NoneGoes old new → AreBreaksOf old breaks → AreBreaksOf new breaks
+breaks_kept old new breaks stay none q gone = none q (stay q gone)
 
-pub above_removed : (breaks : Breaks) (drawn p : ℕ) → NoBreaksAbove drawn breaks → NoBreaksAbove drawn (remove breaks p)
-above_removed breaks drawn p none q above = by_key q p
+pub breaks_removed : (old new : Machine) (breaks : Breaks) (p : ℕ) → ((q : ℕ) → (q ≡ p → ⊥) → get new.processes q ≡ get old.processes q) → AreBreaksOf old breaks
+    → AreBreaksOf new (remove breaks p)
+breaks_removed old new breaks p left none q gone = by_key q p
     (λ same. removed_same breaks p q same)
-    (λ other. removed_other breaks p q other ∙ none q above)
+    (λ other. removed_other breaks p q other ∙ none q (sym (left q other) ∙ gone))
 
-pub above_put : (breaks : Breaks) (drawn p : ℕ) (addresses : Addresses) → (drawn < p → ⊥) → NoBreaksAbove drawn breaks → NoBreaksAbove drawn (insert breaks p addresses)
-above_put breaks drawn p addresses there none q above =
-    get_other breaks p q addresses (λ same. there (subst (λ n. drawn < n) same above)) ∙ none q above
+pub breaks_put : (machine : Machine) (breaks : Breaks) (p : ℕ) (addresses : Addresses) → is_some (get machine.processes p) ≡ true → AreBreaksOf machine breaks
+    → AreBreaksOf machine (insert breaks p addresses)
+breaks_put machine breaks p addresses there none q gone =
+    get_other breaks p q addresses (not_free machine p q there gone) ∙ none q gone
 
-pub above_without : (breaks : Breaks) (drawn p address : ℕ) → (drawn < p → ⊥) → NoBreaksAbove drawn breaks → NoBreaksAbove drawn (without_break breaks p address)
-above_without breaks drawn p address there none = by_found (get breaks p)
+pub breaks_without : (machine : Machine) (breaks : Breaks) (p address : ℕ) → is_some (get machine.processes p) ≡ true → AreBreaksOf machine breaks
+    → AreBreaksOf machine (without_break breaks p address)
+breaks_without machine breaks p address there none = by_found (get breaks p)
   where
-    by_found : (o : Option Addresses) → NoBreaksAbove drawn (option_map_or (λ addresses. insert breaks p (without_address addresses address)) o breaks)
+    by_found : (o : Option Addresses) → AreBreaksOf machine (option_map_or (λ addresses. insert breaks p (without_address addresses address)) o breaks)
     by_found None = none
-    by_found (Some addresses) = above_put breaks drawn p (without_address addresses address) there none
-
--- a process that is there has a number that was drawn
-pub was_drawn : (machine : Machine) (spaces : List ℕ) (drawn p : ℕ) (process : declared.Process) → IsSession machine spaces drawn → get machine.processes p ≡ Some process → drawn < p → ⊥
-was_drawn machine spaces drawn p process is there above = let both : Some process ≡ None = sym there ∙ is.no_process p above in cc
+    by_found (Some addresses) = breaks_put machine breaks p (without_address addresses address) there none
 
 -- where a process never had a breakpoint, none is reached
 none_by : (breaks : Breaks) (p : ℕ) (process : Process) → None ≡ get breaks p → None ≡ break_at breaks p process

@@ -162,19 +162,19 @@ pub copy_keeps : (from to : ℕ) (old new : Machine) (e : SpaceError) → CopyFa
 copy_keeps from to old new (error.Full needed limit) (needed_is, limit_is, full, same) = keeps_same old new same
 copy_keeps from to old new error.Memory (enough, same) = keeps_before old new same
 
-module _ (row : Row) (from to : ℕ) (old new : Machine) (kept : List Checkpoint) (breaks : Breaks) (drawn : ℕ)
+module _ (row : Row) (from to : ℕ) (old new : Machine) (kept : List Checkpoint) (breaks : Breaks)
     (taken : first_refusal row.refusals ≡ None) (may : row.may_need_units ≡ true) (last : row.memory ≡ TakesLast) (by : row.event ≡ Copy from to) where
   abbrev before : Shown
-  before = shown_by old kept breaks drawn
+  before = shown_by old kept breaks
 
   full_is : (b : Bool) → is_event_full (Copy from to) (wholes old) ≡ b → is_event_full row.event (wholes old) ≡ b
   full_is b is = ap (λ e. is_event_full e (wholes old)) by ∙ is
 
-  pub gives_unmade : (e : SpaceError) → CopyFails from to old new e → GivesChange row before (answer_of e) (shown_by new kept breaks drawn)
+  pub gives_unmade : (e : SpaceError) → CopyFails from to old new e → GivesChange row before (answer_of e) (shown_by new kept breaks)
   gives_unmade (error.Full needed limit) (needed_is, limit_is, full, same) =
-      row_full row before (shown_by new kept breaks drawn) needed limit taken may (full_is true full) (needed_is ∙ sym (ap (λ e. event_needs e (wholes old)) by)) limit_is
-      (subst (λ (m : Machine). AreLikeStates (shown_by m kept breaks drawn) before) (sym same) (states_itself before))
+      row_full row before (shown_by new kept breaks) needed limit taken may (full_is true full) (needed_is ∙ sym (ap (λ e. event_needs e (wholes old)) by)) limit_is
+      (subst (λ (m : Machine). AreLikeStates (shown_by m kept breaks) before) (sym same) (states_itself before))
   gives_unmade error.Memory (enough, same) = (
-    row_wants row before (shown_by new kept breaks drawn) last taken (ap (λ b. b && is_event_full row.event (wholes old)) may ∙ full_is false enough),
-    ap (λ (w : Wholes). record { wholes = w; checkpoints = kept; breakpoints = breaks; drawn = drawn }) (same_wholes old new same),
+    row_wants row before (shown_by new kept breaks) last taken (ap (λ b. b && is_event_full row.event (wholes old)) may ∙ full_is false enough),
+    ap (λ (w : Wholes). record { wholes = w; checkpoints = kept; breakpoints = breaks }) (same_wholes old new same),
   )

@@ -17,9 +17,9 @@ use Rattle.command_core.proofs.Rows.{gives_found, row_accepted, row_wants}
 
 -- Breakpoints of a process that is there, added and taken away.
 
-module _ (old : Machine) (xs : List Kept) (breaks : Breaks) (drawn p address : ℕ) (process : declared.Process) (there : get old.processes p ≡ Some process) where
+module _ (old : Machine) (xs : List Kept) (breaks : Breaks) (p address : ℕ) (process : declared.Process) (there : get old.processes p ≡ Some process) where
   abbrev before : State
-  before = shown_state old xs breaks drawn
+  before = shown_state old xs breaks
 
   abbrev kept : List Checkpoint
   kept = checkpoints_in (spaces_of old) xs
@@ -27,21 +27,21 @@ module _ (old : Machine) (xs : List Kept) (breaks : Breaks) (drawn p address : �
   abbrev whole : Process
   whole = whole_in (spaces_of old) p process
 
-  pub break_added : GivesChange (on_process p (break_row p address) (registry_of before)) before Done (shown_state old xs (with_break breaks p address) drawn)
+  pub break_added : GivesChange (on_process p (break_row p address) (registry_of before)) before Done (shown_state old xs (with_break breaks p address))
   unfolding ledger_by
   break_added =
-      let after = shown_state old xs (with_break breaks p address) drawn in
-      gives_found old kept breaks drawn p (break_row p address) process Done after there
+      let after = shown_state old xs (with_break breaks p address) in
+      gives_found old kept breaks p (break_row p address) process Done after there
       (row_accepted (break_row p address whole (registry_of before)) before after refl refl (states_itself after))
 
   pub break_wants : has_break breaks p address ≡ false → GivesChange (on_process p (break_row p address) (registry_of before)) before Memory before
   break_wants absent =
-      gives_found old kept breaks drawn p (break_row p address) process Memory before there
+      gives_found old kept breaks p (break_row p address) process Memory before there
       (row_wants (break_row p address whole (registry_of before)) before before (ap break_memory absent) refl refl, refl)
 
-  pub break_removed : GivesChange (on_process p (unbreak_row p address) (registry_of before)) before Done (shown_state old xs (without_break breaks p address) drawn)
+  pub break_removed : GivesChange (on_process p (unbreak_row p address) (registry_of before)) before Done (shown_state old xs (without_break breaks p address))
   unfolding ledger_by
   break_removed =
-      let after = shown_state old xs (without_break breaks p address) drawn in
-      gives_found old kept breaks drawn p (unbreak_row p address) process Done after there
+      let after = shown_state old xs (without_break breaks p address) in
+      gives_found old kept breaks p (unbreak_row p address) process Done after there
       (row_accepted (unbreak_row p address whole (registry_of before)) before after refl refl (states_itself after))

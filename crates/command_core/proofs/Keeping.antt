@@ -1,6 +1,7 @@
-use Rattle.std.proofs.Common.{◌≡◌, ℕ, ◌+◌, ◌<◌, ◌≤◌, Bool, true, false, cond, List, [], ◌∷◌, ◌++◌, length, ap, subst, ◌∙◌, refl, arith, Some, None}
-use Rattle.std.specs.Prelude.{nat_eq}
-use Rattle.std.specs.List.{AllByRecursion}
+use Rattle.std.proofs.Common.{◌≡◌, ℕ, ◌+◌, ◌<◌, ◌≤◌, Bool, true, false, cond, List, [], ◌∷◌, ◌++◌, sym, ap, subst, ◌∙◌, refl, arith, Some, None}
+use Rattle.std.specs.Prelude.{◌==◌, ◌||◌, nat_eq}
+use Rattle.std.specs.List.{AllByRecursion, IsDistinct, list_any}
+use Rattle.std.proofs.lemmas.Bool.{eq-eqb, ne_eqb}
 use Rattle.std.specs.Option.{option_map}
 use Rattle.space_maps.specs.Spaces.{space_in}
 use lib.Pointwise.{pointwise}
@@ -8,7 +9,6 @@ use Rattle.overlay_pages.specs.State.{State}
 use Rattle.machine_core.specs.Laws.{whole_by}
 use Rattle.command_core.specs.declared.checkpoints.Kept.{Kept}
 use Rattle.command_core.specs.State.{Checkpoint}
-use Rattle.command_core.specs.Sessions.{RiseTo}
 use Rattle.command_core.specs.Kept.{checkpoint_in, checkpoints_in, kept_but, kept_named, spaces_kept}
 use Rattle.command_core.specs.Checkpoints.{checkpoint_named, checkpoints_but}
 
@@ -24,32 +24,39 @@ pub each_more : (P : ℕ → Type 0) (qs : List ℕ) (q : ℕ) → AllByRecursio
 each_more P [] q all h = (h, tt)
 each_more P (x ∷ qs) q all h = (all.0, each_more P qs q all.1 h)
 
-pub rise_on : (above : ℕ) (qs : List ℕ) (last more : ℕ) → last ≤ more → RiseTo above qs last → RiseTo above qs more
-rise_on above [] last more le rise = omega (arith, le, rise)
-rise_on above (q ∷ qs) last more le rise = (rise.0, rise_on q qs last more le rise.1)
+-- numbers that each stand once
+pub none_twice : IsDistinct nat_eq []
+unfolding IsDistinct
+none_twice = tt
 
-pub rise_more : (above : ℕ) (qs : List ℕ) (last more : ℕ) → last < more → RiseTo above qs last → RiseTo above (qs ++ (more ∷ [])) more
-rise_more above [] last more over rise = (omega (arith, rise, over), omega arith)
-rise_more above (q ∷ qs) last more over rise = (rise.0, rise_more q qs last more over rise.1)
+pub once_more : (qs : List ℕ) (n : ℕ) → AllByRecursion (λ q. q ≡ n → ⊥) qs → IsDistinct nat_eq qs → IsDistinct nat_eq (qs ++ n ∷ [])
+unfolding IsDistinct
+once_more [] n others once = (tt, tt)
+once_more (q ∷ qs) n others once = (each_more (λ r. nat_eq q r ≡ false) qs n once.0 (ne_eqb q n others.0), once_more qs n others.1 once.1)
 
-rise_below : (above below : ℕ) (qs : List ℕ) (last : ℕ) → below ≤ above → RiseTo above qs last → RiseTo below qs last
-rise_below above below [] last le rise = omega (arith, le, rise)
-rise_below above below (q ∷ qs) last le rise = (omega (arith, le, rise.0), rise.1)
+-- whether one stands among some, and one more
+pub any_left : (q : ℕ) (qs : List ℕ) (n : ℕ) → list_any (λ x. x == q) qs ≡ true → list_any (λ x. x == q) (qs ++ n ∷ []) ≡ true
+any_left q [] n has = cc
+any_left q (x ∷ qs) n has = by_test (x == q) (any_left q qs n) has
+  where
+    by_test : (b : Bool) → (list_any (λ x. x == q) qs ≡ true → list_any (λ x. x == q) (qs ++ n ∷ []) ≡ true) → (b || list_any (λ x. x == q) qs) ≡ true
+        → (b || list_any (λ x. x == q) (qs ++ n ∷ [])) ≡ true
+    by_test true more h = refl
+    by_test false more h = more h
 
--- as many as there is room for
-pub rise_count : (above : ℕ) (qs : List ℕ) (last : ℕ) → RiseTo above qs last → above + length qs ≤ last
-rise_count above [] last rise = omega (arith, rise)
-rise_count above (q ∷ qs) last rise = omega (arith, rise.0, rise_count q qs last rise.1)
+pub any_last : (n : ℕ) (qs : List ℕ) → list_any (λ x. x == n) (qs ++ n ∷ []) ≡ true
+any_last n [] = ap (λ b. b || false) (eq-eqb n n refl)
+any_last n (x ∷ qs) = by_test (x == n) (any_last n qs)
+  where
+    by_test : (b : Bool) → list_any (λ x. x == n) (qs ++ n ∷ []) ≡ true → (b || list_any (λ x. x == n) (qs ++ n ∷ [])) ≡ true
+    by_test true h = refl
+    by_test false h = h
 
--- all are above the first
-all_above : (above least : ℕ) (qs : List ℕ) (last : ℕ) → least ≤ above → RiseTo above qs last → AllByRecursion (λ q. least < q) qs
-all_above above least [] last le rise = tt
-all_above above least (q ∷ qs) last le rise = (omega (arith, le, rise.0), all_above q least qs last (omega (arith, le, rise.0)) rise.1)
-
--- those above a number aren't that one
-all_beside : (P : ℕ → Type 0) (qs : List ℕ) (least n : ℕ) → least ≡ n → AllByRecursion (λ q. least < q) qs → AllByRecursion P qs → AllByRecursion (λ q. P q × (q ≡ n → ⊥)) qs
-all_beside P [] least n same high all = tt
-all_beside P (q ∷ qs) least n same high all = ((all.0, λ e. omega (arith, same, e, high.0)), all_beside P qs least n same high.1 all.1)
+-- those that differ from the first aren't that one
+all_beside : (P : ℕ → Type 0) (qs : List ℕ) (y n : ℕ) → y ≡ n → AllByRecursion (λ q. nat_eq y q ≡ false) qs → AllByRecursion P qs → AllByRecursion (λ q. P q × (q ≡ n → ⊥)) qs
+all_beside P [] y n same apart all = tt
+all_beside P (q ∷ qs) y n same apart all =
+    ((all.0, λ e. let both : false ≡ true = sym apart.0 ∙ eq-eqb y q (same ∙ sym e) in cc), all_beside P qs y n same apart.1 all.1)
 
 -- One that is found by its name.
 
@@ -73,28 +80,57 @@ module _ (name : List ℕ) where
       by_name true rest e = cc
       by_name false rest e = ap (λ zs. y ∷ zs) (rest e)
 
-  -- the others rise too
-  pub rise_but : (above : ℕ) (xs : List Kept) (last : ℕ) → RiseTo above (spaces_kept xs) last → RiseTo above (spaces_kept (kept_but name xs)) last
-  rise_but above [] last rise = rise
-  rise_but above (y ∷ xs) last rise = by_name (pointwise nat_eq name y.name) (rise_but y.space xs last rise.1)
+  -- the others stand once too
+  each_but : (P : ℕ → Type 0) (xs : List Kept) → AllByRecursion P (spaces_kept xs) → AllByRecursion P (spaces_kept (kept_but name xs))
+  each_but P [] all = tt
+  each_but P (y ∷ xs) all = by_name (pointwise nat_eq name y.name) (each_but P xs all.1)
     where
-      by_name : (b : Bool) → RiseTo y.space (spaces_kept (kept_but name xs)) last → RiseTo above (spaces_kept (cond b xs (y ∷ kept_but name xs))) last
-      by_name true rest = rise_below y.space above (spaces_kept xs) last (omega (arith, rise.0)) rise.1
-      by_name false rest = (rise.0, rest)
+      by_name : (b : Bool) → AllByRecursion P (spaces_kept (kept_but name xs)) → AllByRecursion P (spaces_kept (cond b xs (y ∷ kept_but name xs)))
+      by_name true rest = all.1
+      by_name false rest = (all.0, rest)
 
-  -- and none of them has its space
-  pub others_but : (P : ℕ → Type 0) (above : ℕ) (xs : List Kept) (last : ℕ) (x : Kept) → RiseTo above (spaces_kept xs) last → kept_named name xs ≡ Some x
+  pub once_but : (xs : List Kept) → IsDistinct nat_eq (spaces_kept xs) → IsDistinct nat_eq (spaces_kept (kept_but name xs))
+  unfolding IsDistinct
+  once_but [] once = tt
+  once_but (y ∷ xs) once = by_name (pointwise nat_eq name y.name) (each_but (λ q. nat_eq y.space q ≡ false) xs once.0) (once_but xs once.1)
+    where
+      by_name : (b : Bool) → AllByRecursion (λ q. nat_eq y.space q ≡ false) (spaces_kept (kept_but name xs)) → IsDistinct nat_eq (spaces_kept (kept_but name xs))
+          → IsDistinct nat_eq (spaces_kept (cond b xs (y ∷ kept_but name xs)))
+      by_name true apart rest = once.1
+      by_name false apart rest = (apart, rest)
+
+  -- none of them has its space
+  pub others_but : (P : ℕ → Type 0) (xs : List Kept) (x : Kept) → IsDistinct nat_eq (spaces_kept xs) → kept_named name xs ≡ Some x
       → AllByRecursion P (spaces_kept xs) → AllByRecursion (λ q. P q × (q ≡ x.space → ⊥)) (spaces_kept (kept_but name xs))
-  others_but P above [] last x rise is all = cc
-  others_but P above (y ∷ xs) last x rise is all = by_name (pointwise nat_eq name y.name) (λ e. others_but P y.space xs last x rise.1 e all.1) is
+  unfolding IsDistinct
+  others_but P [] x once is all = cc
+  others_but P (y ∷ xs) x once is all = by_name (pointwise nat_eq name y.name) (λ e. others_but P xs x once.1 e all.1) is
     where
-      high : AllByRecursion (λ q. y.space < q) (spaces_kept xs)
-      high = all_above y.space y.space (spaces_kept xs) last (omega arith) rise.1
-
       by_name : (b : Bool) → (kept_named name xs ≡ Some x → AllByRecursion (λ q. P q × (q ≡ x.space → ⊥)) (spaces_kept (kept_but name xs)))
           → cond b (Some y) (kept_named name xs) ≡ Some x → AllByRecursion (λ q. P q × (q ≡ x.space → ⊥)) (spaces_kept (cond b xs (y ∷ kept_but name xs)))
-      by_name true rest e = let same : y ≡ x = cc in all_beside P (spaces_kept xs) y.space x.space (ap (λ (z : Kept). z.space) same) high all.1
-      by_name false rest e = let above_it = found_has (λ q. y.space < q) xs x high e in ((all.0, λ same. omega (arith, same, above_it)), rest e)
+      by_name true rest e = let same : y ≡ x = cc in all_beside P (spaces_kept xs) y.space x.space (ap (λ (z : Kept). z.space) same) once.0 all.1
+      by_name false rest e =
+          let apart = found_has (λ q. nat_eq y.space q ≡ false) xs x once.0 e in
+          ((all.0, λ same. let both : false ≡ true = sym apart ∙ eq-eqb y.space x.space same in cc), rest e)
+
+  -- and each other number that stood among them still does
+  pub any_but : (q : ℕ) (xs : List Kept) (x : Kept) → kept_named name xs ≡ Some x → (q ≡ x.space → ⊥) → list_any (λ z. z == q) (spaces_kept xs) ≡ true
+      → list_any (λ z. z == q) (spaces_kept (kept_but name xs)) ≡ true
+  any_but q [] x is other has = cc
+  any_but q (y ∷ xs) x is other has = by_name (pointwise nat_eq name y.name) (any_but q xs x) is
+    where
+      by_first : (b : Bool) → (list_any (λ z. z == q) (spaces_kept xs) ≡ true → list_any (λ z. z == q) (spaces_kept (kept_but name xs)) ≡ true)
+          → (b || list_any (λ z. z == q) (spaces_kept xs)) ≡ true → (b || list_any (λ z. z == q) (spaces_kept (kept_but name xs))) ≡ true
+      by_first true rest h = refl
+      by_first false rest h = rest h
+
+      by_name : (b : Bool)
+          → (kept_named name xs ≡ Some x → (q ≡ x.space → ⊥) → list_any (λ z. z == q) (spaces_kept xs) ≡ true → list_any (λ z. z == q) (spaces_kept (kept_but name xs)) ≡ true)
+          → cond b (Some y) (kept_named name xs) ≡ Some x → list_any (λ z. z == q) (spaces_kept (cond b xs (y ∷ kept_but name xs))) ≡ true
+      by_name true rest e =
+          let same : y ≡ x = cc in
+          ap (λ b. b || list_any (λ z. z == q) (spaces_kept xs)) (sym (ne_eqb y.space q (λ s. other (sym s ∙ ap (λ (z : Kept). z.space) same)))) ∙ has
+      by_name false rest e = by_first (y.space == q) (rest e other) has
 
   -- as it is shown
   pub named_shown : (spaces : State) (xs : List Kept) → checkpoint_named name (checkpoints_in spaces xs) ≡ option_map (checkpoint_in spaces) (kept_named name xs)

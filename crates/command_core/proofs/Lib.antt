@@ -2,6 +2,7 @@ mod Looking
 pub mod Entries
 pub mod Keeping
 pub mod Places
+pub mod Numbers
 pub mod Rows
 pub mod Rans
 pub mod Breaks

@@ -1,10 +1,10 @@
 use Rattle.std.proofs.Common.{◌≡◌, ℕ, ◌+◌, ◌<◌, ◌≤◌, suc, Bool, true, false, cond, List, [], ◌∷◌, map, sym, ap, subst, ◌∙◌, refl, arith, inl, inr, Option, Some, None}
-use Rattle.std.specs.Prelude.{nat_le, slice_get, IfSome, Ok}
+use Rattle.std.specs.Prelude.{◌||◌, eqb, nat_le, slice_get, IfSome, Ok}
 use Rattle.std.specs.Option.{is_some, option_map, MatchOption}
-use Rattle.std.specs.List.{filter}
+use Rattle.std.specs.List.{AllByRecursion, IsDistinct, filter, list_any}
 use Rattle.std.specs.Ordering.{nat_cmp}
 use Rattle.std.specs.FinMap.{find, get, len, entries, get-entries}
-use Rattle.std.proofs.lemmas.Bool.{cases_lt}
+use Rattle.std.proofs.lemmas.Bool.{eqb-true, ne_eqb}
 use Rattle.std.proofs.lemmas.List.{length-map}
 use Rattle.std.proofs.lemmas.Option.{slice_get-map, slice_get_within}
 use Rattle.std.proofs.lemmas.Bool.Decides.{nat_tests}
@@ -17,18 +17,19 @@ use Rattle.overlay_pages.specs.State.{State, books, memory_of, seen_page}
 use Rattle.overlay_memory.specs.View.{TranslatedView, state_of, translations_of}
 use Rattle.space_maps.specs.Spaces.{space_in}
 use Rattle.machine_core.specs.declared.process.Process as declared
-use Rattle.machine_core.specs.Machine.{Machine, Wholes, keys_from, unit_limit, registers_at, registers_of, registers_shown, spaces_of, whole_in, wholes}
+use Rattle.machine_core.specs.Machine.{Machine, Wholes, has_space, keys_from, unit_limit, registers_at, registers_of, registers_shown, spaces_of, whole_in, wholes}
 use Rattle.machine_core.specs.Laws.{processes_at}
 use Rattle.machine_core.specs.NumberLaws.{Rises, entries_rise}
 use Rattle.command_core.specs.declared.session.Counts.{Counts}
 use Rattle.command_core.specs.declared.session.ProcessView.{ProcessView}
 use Rattle.sizes.specs.declared.TheConstants.{LAST_SPACE}
-use Rattle.command_core.specs.Sessions.{IsSession}
+use Rattle.command_core.specs.Sessions.{HasNoProcess, IsSession}
+use Rattle.free_numbers.specs.Numbers.{is_number}
+use Rattle.std.proofs.lemmas.Map.Steps.{length-le_from_distinct_below}
 use Rattle.command_core.specs.declared.checkpoints.Kept.{Kept}
 use Rattle.command_core.specs.declared.session.CheckpointView.{CheckpointView}
 use Rattle.command_core.specs.Kept.{checkpoint_in, checkpoints_in, spaces_kept}
 use Rattle.command_core.specs.Looks.{LooksAtCheckpoint, NextProcess, counts_of, looked_at}
-use Rattle.command_core.proofs.Keeping.{rise_count}
 use Rattle.command_core.proofs.Places.{marked_is}
 
 -- Processes by number: the entries ascend, so those from a number on are the first of them and those behind it.
@@ -104,20 +105,24 @@ next_from all from p starts =
     let (process, not_below, found, splits) = first_from from 0 p (entries all.processes) (entries_rise all.processes) starts in
     (not_below, ap is_some (get-entries all.processes p ∙ found))
 
--- where a number is the next one, it isn't above those drawn
-few : (machine : Machine) (spaces : List ℕ) (drawn p : ℕ) → IsSession machine spaces drawn → is_some (get (wholes machine).processes p) ≡ true → p ≤ LAST_SPACE
-few machine spaces drawn p is has = elim (cases_lt drawn p) [
-  | inl above ↦ absurd (let lacks = ap is_some (ap (option_map (whole_in (spaces_of machine) p)) (is.no_process p above)) in
-      let both : false ≡ true = sym (ap is_some (processes_at machine p) ∙ lacks) ∙ has in cc)
-  | inr le ↦ omega (arith, le, is.few)
-]
+-- a process has the number of a space
+few : (machine : Machine) (spaces : List ℕ) (numbers : List (List ℕ)) (p : ℕ) → IsSession machine spaces numbers → is_some (get (wholes machine).processes p) ≡ true
+    → p ≤ LAST_SPACE
+few machine spaces numbers p is has = within (is.in_range p (is.own_space p (by_found (get machine.processes p) (sym (ap is_some (processes_at machine p)) ∙ has))))
+  where
+    by_found : (o : Option declared.Process) → is_some (option_map (whole_in (spaces_of machine) p) o) ≡ true → is_some o ≡ true
+    by_found None h = cc
+    by_found (Some process) h = refl
 
-pub next_within : (machine : Machine) (spaces : List ℕ) (drawn from : ℕ) (r : Option ℕ) → IsSession machine spaces drawn
+    within : is_number p ≡ true → p ≤ LAST_SPACE
+    within number = grind (arith, nat_tests, number)
+
+pub next_within : (machine : Machine) (spaces : List ℕ) (numbers : List (List ℕ)) (from : ℕ) (r : Option ℕ) → IsSession machine spaces numbers
     → MatchOption r (keys_from from (wholes machine) ≡ []) (λ p. slice_get (keys_from from (wholes machine)) 0 ≡ Some p)
     → IfSome r (λ p. (from ≤ p) × (p ≤ LAST_SPACE))
-next_within machine spaces drawn from None is starts = tt
-next_within machine spaces drawn from (Some p) is starts =
-    let (not_below, has) = next_from (wholes machine) from p starts in (not_below, few machine spaces drawn p is has)
+next_within machine spaces numbers from None is starts = tt
+next_within machine spaces numbers from (Some p) is starts =
+    let (not_below, has) = next_from (wholes machine) from p starts in (not_below, few machine spaces numbers p is has)
 
 -- A process as it is shown, of its parts: its registers and its state, whether its space is marked, and how many pages that has.
 abbrev pub shown : declared.Process → Bool → ℕ → ProcessView
@@ -156,13 +161,47 @@ module _ (spaces : State) (xs : List Kept) (index : ℕ) where
   kept_shown x view is name space pages =
       (checkpoint_in spaces x, shown_at (Some x) is, record { name = name; space = space; pages = pages ∙ sym (pages_are spaces x.space) })
 
--- its place is below the number of spaces
-pub kept_within : (machine : Machine) (xs : List Kept) (drawn index : ℕ) (x : Kept) → IsSession machine (spaces_kept xs) drawn → slice_get xs index ≡ Some x → index < LAST_SPACE
-kept_within machine xs drawn index x is found =
+-- Its place is below the number of spaces: the spaces of checkpoints are so many numbers, each once.
+numbers_within : (machine : Machine) (qs : List ℕ) → ((q : ℕ) → has_space machine q ≡ true → is_number q ≡ true) → AllByRecursion (HasNoProcess machine) qs
+    → (q : ℕ) → list_any (eqb q) qs ≡ true → (1 ≤ q) × (q ≤ LAST_SPACE)
+numbers_within machine [] in_range free q has = cc
+numbers_within machine (x ∷ qs) in_range free q has = by_test (eqb q x) refl (numbers_within machine qs in_range free.1 q) has
+  where
+    here : is_number x ≡ true → q ≡ x → (1 ≤ q) × (q ≤ LAST_SPACE)
+    here number same = (grind (arith, nat_tests, number, same), grind (arith, nat_tests, number, same))
+
+    by_test : (b : Bool) → eqb q x ≡ b → (list_any (eqb q) qs ≡ true → (1 ≤ q) × (q ≤ LAST_SPACE)) → (b || list_any (eqb q) qs) ≡ true → (1 ≤ q) × (q ≤ LAST_SPACE)
+    by_test true same rest h = here (in_range x free.0.0) (eqb-true q x same)
+    by_test false other rest h = rest h
+
+pub kept_within : (machine : Machine) (xs : List Kept) (numbers : List (List ℕ)) (index : ℕ) (x : Kept) → IsSession machine (spaces_kept xs) numbers
+    → slice_get xs index ≡ Some x → index < LAST_SPACE
+kept_within machine xs numbers index x is found =
     let inside = slice_get_within xs index x found in
-    let count = rise_count 0 (spaces_kept xs) drawn is.rise in
     let same = length-map xs (λ (y : Kept). y.space) in
-    omega (arith, inside, count, same, is.few)
+    let count = length-le_from_distinct_below (0 ∷ spaces_kept xs) (LAST_SPACE + 1) (with_zero is.once) below in
+    omega (arith, inside, count, same)
+  where
+    among : (q : ℕ) → list_any (eqb q) (spaces_kept xs) ≡ true → (1 ≤ q) × (q ≤ LAST_SPACE)
+    among q has = numbers_within machine (spaces_kept xs) is.in_range is.free q has
+
+    below : (q : ℕ) → list_any (eqb q) (0 ∷ spaces_kept xs) ≡ true → q < LAST_SPACE + 1
+    below q has = by_test (eqb q 0) refl has
+      where
+        by_test : (b : Bool) → eqb q 0 ≡ b → (b || list_any (eqb q) (spaces_kept xs)) ≡ true → q < LAST_SPACE + 1
+        by_test true same h = omega (arith, eqb-true q 0 same)
+        by_test false other h = omega (arith, (among q h).1)
+
+    not_zero : (qs : List ℕ) → AllByRecursion (HasNoProcess machine) qs → AllByRecursion (λ q. eqb 0 q ≡ false) qs
+    not_zero [] free = tt
+    not_zero (q ∷ qs) free = (zero_apart q (is.in_range q free.0.0), not_zero qs free.1)
+      where
+        zero_apart : (q : ℕ) → is_number q ≡ true → eqb 0 q ≡ false
+        zero_apart q number = let low : 1 ≤ q = grind (arith, nat_tests, number) in ne_eqb 0 q (λ same. omega (arith, low, same))
+
+    with_zero : IsDistinct eqb (spaces_kept xs) → IsDistinct eqb (0 ∷ spaces_kept xs)
+    unfolding IsDistinct
+    with_zero once = (not_zero (spaces_kept xs) is.free, once)
 
 -- The counts, by those of the memory.
 pub counts_are : (machine : Machine) (memory : TranslatedView) (used most own hits misses : ℕ) → memory ≡ machine.memory → used ≡ units (books (state_of memory))

@@ -312,7 +312,7 @@ module _ (p : ℕ) (process : declared.Process) (old : Machine) (memory : Transl
     remade_stays : is_marked old p ≡ false → KeepsSession old mid
     remade_stays unmarked =
         subst (KeepsSession old) (put_again p process old memory there)
-        (stays p process old memory there e process (with_pages left before) (whole_is unmarked) is.others is.keeps.there (is.keeps.awaiting p)
+        (stays p process old memory there e process (with_pages left before) (whole_is unmarked) is.others (Some p) lists is.keeps.there (is.keeps.awaiting p)
         (λ h. is.keeps.marks p ∙ h ∙ saved_here p process old memory there))
 
   -- the refusal is that of the row
@@ -347,8 +347,8 @@ module _ (p : ℕ) (process : declared.Process) (old : Machine) (memory : Transl
           let left = pages_mapped perms.0 page n (memory_of (spaces_of old) p) in
           let unmarked = unmarked_by _ _ _ is in
           let remade = remade_by e left (spaces_of old) _ (state_of memory) p put (zeros_put (spaces_of old) p page n perms here) in
-          machine_done maps old mid (map_refusal_is address n perms None is) (λ kept breaks drawn. refl) (λ r. refl) (λ kept breaks drawn. remade_like e left remade lists unmarked)
-          (λ r. refl) (λ r. refl) (λ r. refl) (remade_stays e left remade lists unmarked)
+          machine_done maps old mid (map_refusal_is address n perms None is) (λ kept breaks. refl) (λ r. refl) (λ kept breaks. remade_like e left remade lists unmarked)
+          (λ r. refl) (λ r. refl) (remade_stays e left remade lists unmarked)
 
       pub map_refused : (code : Code) → RefusesMap (spaces_of old) p address n (Some code) → ChangesProcess p (Map address n perms) process old (Refused code) old
       map_refused code (is, told) = machine_refused maps old old code (map_refusal_is address n perms (Some code) is) refl
@@ -363,8 +363,8 @@ module _ (p : ℕ) (process : declared.Process) (old : Machine) (memory : Transl
         let left = pages_gone page n (memory_of (spaces_of old) p) in
         let unmarked = unmarked_by _ _ _ is in
         let remade = remade_by e left (spaces_of old) _ (state_of memory) p cut (pages_cut (spaces_of old) p page n here) in
-        machine_done gives_up old mid (unmap_refusal_is address n None is) (λ kept breaks drawn. refl) (λ r. refl) (λ kept breaks drawn. remade_like e left remade lists unmarked)
-        (λ r. refl) (λ r. refl) (λ r. refl) (remade_stays e left remade lists unmarked)
+        machine_done gives_up old mid (unmap_refusal_is address n None is) (λ kept breaks. refl) (λ r. refl) (λ kept breaks. remade_like e left remade lists unmarked)
+        (λ r. refl) (λ r. refl) (remade_stays e left remade lists unmarked)
 
     pub unmap_refused : (code : Code) → RefusesUnmap (spaces_of old) p address n (Some code) → ChangesProcess p (Unmap address n) process old (Refused code) old
     unmap_refused code (is, told) = machine_refused gives_up old old code (unmap_refusal_is address n (Some code) is) refl

@@ -1,8 +1,8 @@
 use Rattle.std.proofs.Common.{◌≡◌, ℕ, ◌+◌, ◌<◌, ◌≤◌, Bool, true, false, cond, sym, ap, subst, ◌∙◌, refl, arith, nat_lt, Option, Some, None, List, [], ◌∷◌, ◌++◌}
 use Rattle.std.specs.Option.{is_some, option_map, option_map_or, unwrap_or}
-use Rattle.std.specs.List.{All, AllByRecursion}
+use Rattle.std.specs.List.{All, AllByRecursion, IsDistinct, list_any}
 use Rattle.std.specs.Ordering.{nat_cmp}
-use Rattle.std.specs.Prelude.{IfSome}
+use Rattle.std.specs.Prelude.{◌==◌, ◌&&◌, IfSome, nat_eq, not}
 use Rattle.std.proofs.lemmas.Bool.Decides.{nat_tests}
 use Rattle.std.specs.FinMap.{FinMap, empty, get, get-empty, insert, remove}
 use Rattle.number_maps.specs.Keys.{alike, by_key, get_other, get_same, removed_other, removed_same}
@@ -10,9 +10,9 @@ use Rattle.number_maps.specs.Views.{viewed, viewed_empty}
 use Rattle.sizes.specs.declared.TheConstants.{LAST_SPACE}
 use Rattle.overlay_pages.specs.Calls.{IsEmptyState}
 use Rattle.overlay_pages.specs.State.{SpaceState, State, base_of, books, held_page}
-use Rattle.translation_cache.specs.Translations.{no_translations}
+use Rattle.translation_cache.specs.Translations.{flushed, no_translations}
 use Rattle.command_core.specs.declared.modes.Modes.{Modes}
-use Rattle.command_core.specs.State.{fresh, number_after}
+use Rattle.command_core.specs.State.{fresh}
 use Rattle.overlay_memory.specs.View.{state_of as spaces_in}
 use Rattle.overlay_memory.specs.View.{TranslatedView}
 use Rattle.space_maps.specs.Books.{books_empty}
@@ -25,8 +25,13 @@ use Rattle.machine_core.specs.Laws.{processes_at, runs_shown, whole_by}
 use Rattle.machine_core.specs.Load.{IsAsBefore, IsLoaded, loaded_process}
 use Rattle.round_robin.specs.MemberLaws.{next_has}
 use Rattle.round_robin.specs.Turns.{Turns, next_number}
-use Rattle.command_core.specs.Sessions.{HasNoProcess, IsSession, KeepsFree, KeepsSession, OwnSpaces, RiseTo, bases_of}
-use Rattle.command_core.proofs.Keeping.{each, each_more, rise_more, rise_on}
+use Rattle.command_core.specs.Sessions.{HasNoProcess, IsSession, KeepsFree, KeepsSession, OwnSpaces, bases_of}
+use Rattle.free_numbers.specs.Numbers.{IsPut, is_in, is_number}
+use Rattle.overlay_bits.specs.Below.{and_false, and_true}
+use Rattle.translation_cache.specs.Absent.{HasNone, none_at_first, none_flushed, none_of_own}
+use Rattle.translation_cache.specs.Bare.{BareTranslations}
+use Rattle.command_core.specs.Rows.{flushed_by}
+use Rattle.command_core.proofs.Keeping.{any_last, any_left, each, each_more, none_twice, once_more}
 
 -- Which spaces and processes are there.
 
@@ -52,15 +57,29 @@ not_free machine p q there none same = let lacks = ap is_some (sym (ap (get mach
 
 -- free spaces, the same way
 pub free_start : (machine : Machine) → KeepsFree machine machine
-free_start machine q none = refl
+free_start machine = record { spaces = λ q none. refl; unseen = λ q none unlisted. unlisted }
 
 pub free_then : (a b c : Machine) → KeepsPlaces a b → KeepsFree a b → KeepsFree b c → KeepsFree a c
-free_then a b c places first second q none =
-    second q (none_is (get b.processes q) (places.processes q ∙ ap is_some none)) ∙ first q none
+free_then a b c places first second = record {
+  spaces = λ q none. second.spaces q (still q none) ∙ first.spaces q none;
+  unseen = λ q none unlisted. second.unseen q (still q none) (first.unseen q none unlisted);
+}
+  where
+    still : (q : ℕ) → get a.processes q ≡ None → get b.processes q ≡ None
+    still q none = none_is (get b.processes q) (places.processes q ∙ ap is_some none)
 
 -- where all but one process is as it was, free spaces are
-pub free_stays : (p : ℕ) (old new : Machine) → StaysBut p old new → is_some (get old.processes p) ≡ true → KeepsFree old new
-free_stays p old new others there q none = others.spaces q (not_free old p q there none)
+pub free_stays : (p : ℕ) (old new : Machine) → StaysBut p old new → is_some (get old.processes p) ≡ true
+    → ((q : ℕ) → (q ≡ p → ⊥) → HasNone q (lists_of old) → HasNone q (lists_of new)) → KeepsFree old new
+free_stays p old new others there unlisted = record {
+  spaces = λ q none. others.spaces q (not_free old p q there none);
+  unseen = λ q none. unlisted q (not_free old p q there none);
+}
+
+-- nothing is translated by entries that go
+pub none_flushed_by : (flushes : Option ℕ) (q : ℕ) (t : BareTranslations) → HasNone q t → HasNone q (flushed_by flushes t)
+none_flushed_by None q t none = none
+none_flushed_by (Some p) q t none = none_flushed q p t none
 
 -- whether registers and state are kept, of a process that may be there
 abbrev saved_of : Option declared.Process → Bool
@@ -108,18 +127,23 @@ own_kept old new own same p some = same.spaces p ∙ own p (sym (same.processes 
 
 -- what a session keeps stays so
 
-pub session_kept : (old new : Machine) (spaces : List ℕ) (drawn : ℕ) → IsSession old spaces drawn → KeepsPlaces old new → IsSession new spaces drawn
-session_kept old new spaces drawn is same = record {
-  few = is.few;
-  no_space = λ p above. same.spaces p ∙ is.no_space p above;
-  no_process = λ p above. none_is (get new.processes p) (same.processes p ∙ ap is_some (is.no_process p above));
+pub session_kept : (old new : Machine) (spaces : List ℕ) (numbers : List (List ℕ)) → IsSession old spaces numbers → KeepsPlaces old new → KeepsFree old new
+    → IsSession new spaces numbers
+session_kept old new spaces numbers is same free = record {
+  are_free = λ p. is.are_free p ∙ ap (λ b. is_number p && not b) (sym (same.spaces p));
+  in_range = λ p some. is.in_range p (sym (same.spaces p) ∙ some);
   own_space = λ p some. same.spaces p ∙ is.own_space p (sym (same.processes p) ∙ some);
+  owned = λ p some none. is.owned p (sym (same.spaces p) ∙ some) (before p none);
   none_awaits = λ p. same.awaiting p ∙ is.none_awaits p;
   kept = λ p. same.marks p ∙ is.kept p ∙ sym (same.saves p);
   free = each (HasNoProcess old) (HasNoProcess new) spaces
       (λ q h. (same.spaces q ∙ h.0, none_is (get new.processes q) (same.processes q ∙ ap is_some h.1))) is.free;
-  rise = is.rise;
+  once = is.once;
+  unseen = λ p none. free.unseen p (before p none) (is.unseen p (before p none));
 }
+  where
+    before : (p : ℕ) → get new.processes p ≡ None → get old.processes p ≡ None
+    before p none = none_is (get old.processes p) (sym (same.processes p) ∙ ap is_some none)
 
 module _ (machine : Machine) (modes : Modes) (none : IsEmptyState modes.frames (spaces_of machine)) (no_processes : machine.processes ≡ empty) where
   no_space_yet : (p : ℕ) → get (spaces_of machine).spaces p ≡ None
@@ -128,16 +152,17 @@ module _ (machine : Machine) (modes : Modes) (none : IsEmptyState modes.frames (
   no_process_yet : (p : ℕ) → get machine.processes p ≡ None
   no_process_yet p = ap (λ m. get m p) no_processes ∙ get-empty nat_cmp p
 
-  pub session_start : IsSession machine [] 0
-  session_start = record {
-    few = omega arith;
-    no_space = λ p above. ap is_some (no_space_yet p);
-    no_process = λ p above. no_process_yet p;
+  pub session_start : (numbers : List (List ℕ)) → ((p : ℕ) → is_in numbers p ≡ is_number p) → lists_of machine ≡ no_translations → IsSession machine [] numbers
+  session_start numbers all no_lists = record {
+    are_free = λ p. all p ∙ sym (ap (λ b. is_number p && not b) (ap is_some (no_space_yet p)) ∙ and_true (is_number p));
+    in_range = λ p some. let both : false ≡ true = sym (ap is_some (no_space_yet p)) ∙ some in cc;
     own_space = λ p some. let lacks = ap is_some (no_process_yet p) in let both : false ≡ true = sym lacks ∙ some in cc;
+    owned = λ p some none. let both : false ≡ true = sym (ap is_some (no_space_yet p)) ∙ some in cc;
     none_awaits = λ p. ap (λ (x : SpaceState). x.awaiting) (space_absent (spaces_of machine) p (no_space_yet p));
     kept = λ p. ap (λ (x : SpaceState). x.speculating) (space_absent (spaces_of machine) p (no_space_yet p)) ∙ sym (ap saved_of (no_process_yet p));
     free = tt;
-    rise = omega arith;
+    once = none_twice;
+    unseen = λ p none. subst (HasNone p) (sym no_lists) (none_at_first p);
   }
 
   no_books : books (spaces_of machine) ≡ empty
@@ -153,26 +178,39 @@ module _ (machine : Machine) (modes : Modes) (none : IsEmptyState modes.frames (
   pub wholes_start : lists_of machine ≡ no_translations → wholes machine ≡ (fresh modes).wholes
   wholes_start no_lists = λ i. record { processes = no_wholes i; ledger = no_books i; frames = none.count i; translations = no_lists i }
 
--- a free space isn't the next one
-not_next : (machine : Machine) (spaces : List ℕ) (drawn n q : ℕ) → IsSession machine spaces drawn → drawn < n → HasNoProcess machine q → q ≡ n → ⊥
-not_next machine spaces drawn n q is above h same = let lacks = is.no_space q (omega (arith, same, above)) in let both : false ≡ true = sym lacks ∙ h.0 in cc
+-- a free space isn't one that isn't there
+not_next : (machine : Machine) (n q : ℕ) → has_space machine n ≡ false → HasNoProcess machine q → q ≡ n → ⊥
+not_next machine n q absent h same = let both : false ≡ true = sym absent ∙ sym (ap (has_space machine) same) ∙ h.0 in cc
 
 -- the next number has a space, and everything else is as it was
-module _ (old new : Machine) (spaces : List ℕ) (drawn n : ℕ) (is : IsSession old spaces drawn) (above : drawn < n) (below : n ≤ LAST_SPACE)
+module _ (old new : Machine) (spaces : List ℕ) (numbers left : List (List ℕ)) (n : ℕ) (is : IsSession old spaces numbers) (absent : has_space old n ≡ false)
+    (number : is_number n ≡ true) (taken : IsPut numbers n false left)
     (there : has_space new n ≡ true) (none_awaits : (space_in (spaces_of new) n).awaiting ≡ empty)
-    (kept : is_marked new n ≡ has_saved new n) (others : StaysBut n old new) where
+    (kept : is_marked new n ≡ has_saved new n) (others : StaysBut n old new) (lists : lists_of new ≡ lists_of old) where
   still_free : AllByRecursion (HasNoProcess new) spaces
   still_free = each (HasNoProcess old) (HasNoProcess new) spaces
-      (λ q h. let other = not_next old spaces drawn n q is above h in (others.there q other ∙ h.0, others.processes q other ∙ h.1)) is.free
+      (λ q h. let other = not_next old n q absent h in (others.there q other ∙ h.0, others.processes q other ∙ h.1)) is.free
 
-  drawn_next : (more : List ℕ) → AllByRecursion (HasNoProcess new) more → RiseTo 0 more n → IsSession new more n
-  drawn_next more free rise = record {
-    few = below;
-    no_space = λ p over. others.there p (λ same. omega (arith, over, same)) ∙ is.no_space p (omega (arith, over, above));
-    no_process = λ p over. others.processes p (λ same. omega (arith, over, same)) ∙ is.no_process p (omega (arith, over, above));
+  none_before : get old.processes n ≡ None
+  none_before = none_is (get old.processes n) (by_some (is_some (get old.processes n)) refl)
+    where
+      by_some : (b : Bool) → is_some (get old.processes n) ≡ b → b ≡ false
+      by_some true some = let both : false ≡ true = sym absent ∙ is.own_space n some in cc
+      by_some false some = refl
+
+  with_next : (more : List ℕ) → AllByRecursion (HasNoProcess new) more → IsDistinct nat_eq more → ((q : ℕ) → list_any (λ x. x == q) spaces ≡ true → list_any (λ x. x == q) more ≡ true)
+      → (get new.processes n ≡ None → list_any (λ x. x == n) more ≡ true) → IsSession new more left
+  with_next more free once wider mine = record {
+    are_free = λ p. by_key p n
+        (λ same. ap (is_in left) same ∙ taken.here ∙ sym (ap (λ q. is_number q && not (has_space new q)) same ∙ ap (λ b. is_number n && not b) there ∙ and_false (is_number n)))
+        (λ other. taken.others p other ∙ is.are_free p ∙ ap (λ b. is_number p && not b) (sym (others.there p other)));
+    in_range = λ p some. by_key p n (λ same. ap is_number same ∙ number) (λ other. is.in_range p (sym (others.there p other) ∙ some));
     own_space = λ p some. by_key p n
         (λ same. ap (has_space new) same ∙ there)
         (λ other. others.there p other ∙ is.own_space p (sym (ap is_some (others.processes p other)) ∙ some));
+    owned = λ p some none. by_key p n
+        (λ same. ap (λ q. list_any (λ x. x == q) more) same ∙ mine (ap (get new.processes) (sym same) ∙ none))
+        (λ other. wider p (is.owned p (sym (others.there p other) ∙ some) (sym (others.processes p other) ∙ none)));
     none_awaits = λ p. by_key p n
         (λ same. ap (λ n. (space_in (spaces_of new) n).awaiting) same ∙ none_awaits)
         (λ other. ap (λ (x : SpaceState). x.awaiting) (others.spaces p other) ∙ is.none_awaits p);
@@ -180,56 +218,71 @@ module _ (old new : Machine) (spaces : List ℕ) (drawn n : ℕ) (is : IsSession
         (λ same. ap (is_marked new) same ∙ kept ∙ sym (ap (has_saved new) same))
         (λ other. ap (λ (x : SpaceState). x.speculating) (others.spaces p other) ∙ is.kept p ∙ sym (ap saved_of (others.processes p other)));
     free = free;
-    rise = rise;
+    once = once;
+    unseen = λ p none. subst (HasNone p) (sym lists) (by_key p n
+        (λ same. is.unseen p (ap (get old.processes) same ∙ none_before)) (λ other. is.unseen p (sym (others.processes p other) ∙ none)));
   }
 
   -- a process's, or one without a process
-  pub session_more : IsSession new spaces n
-  session_more = drawn_next spaces still_free (rise_on 0 spaces drawn n (omega (arith, above)) is.rise)
+  pub session_more : is_some (get new.processes n) ≡ true → IsSession new spaces left
+  session_more some =
+      with_next spaces still_free is.once (λ q has. has) (λ none. let both : false ≡ true = sym (ap is_some none) ∙ some in cc)
 
-  pub session_saved : get new.processes n ≡ None → IsSession new (spaces ++ (n ∷ [])) n
+  pub session_saved : get new.processes n ≡ None → IsSession new (spaces ++ (n ∷ [])) left
   session_saved none =
-      drawn_next (spaces ++ (n ∷ [])) (each_more (HasNoProcess new) spaces n still_free (there, none)) (rise_more 0 spaces drawn n above is.rise)
+      with_next (spaces ++ (n ∷ [])) (each_more (HasNoProcess new) spaces n still_free (there, none))
+      (once_more spaces n (each (HasNoProcess old) (λ q. q ≡ n → ⊥) spaces (λ q h. not_next old n q absent h) is.free) is.once)
+      (λ q has. any_left q spaces n has) (λ none. any_last n spaces)
 
-pub session_load : (old new : Machine) (spaces : List ℕ) (drawn n : ℕ) (file : List ℕ) → IsSession old spaces drawn → drawn < n → n ≤ LAST_SPACE → IsLoaded n file old new
-    → IsSession new spaces n
-session_load old new spaces drawn n file is above below loaded =
-    session_more old new spaces drawn n is above below loaded.there loaded.none_awaits
+pub session_load : (old new : Machine) (spaces : List ℕ) (numbers left : List (List ℕ)) (n : ℕ) (file : List ℕ) → IsSession old spaces numbers
+    → has_space old n ≡ false → is_number n ≡ true → IsPut numbers n false left → IsLoaded n file old new → IsSession new spaces left
+session_load old new spaces numbers left n file is absent number taken loaded =
+    session_more old new spaces numbers left n is absent number taken loaded.there loaded.none_awaits
     (mark_at new n (loaded_process file)
     (ap (λ (ps : Processes). get ps n) loaded.like.processes ∙ get_same (wholes old).processes n n (loaded_process file) refl)
-    ∙ sym (ap saved_of (ap (λ (ps : FinMap nat_cmp declared.Process). get ps n) loaded.processes
-    ∙ get_same old.processes n n (shown_process (loaded_process file)) refl)))
-    loaded.others
+    ∙ sym (ap saved_of here))
+    loaded.others loaded.like.translations (ap is_some here)
+  where
+    here : get new.processes n ≡ Some (shown_process (loaded_process file))
+    here = ap (λ (ps : FinMap nat_cmp declared.Process). get ps n) loaded.processes ∙ get_same old.processes n n (shown_process (loaded_process file)) refl
 
 -- after want of memory
-pub session_same : (old new : Machine) (spaces : List ℕ) (drawn : ℕ) → IsSession old spaces drawn → spaces_of new ≡ spaces_of old → new.processes ≡ old.processes
-    → IsSession new spaces drawn
-session_same old new kept drawn is spaces processes = session_kept old new kept drawn is (record {
-  spaces = λ q. ap (λ (s : State). holds_space s q) spaces;
-  awaiting = λ q. ap (λ (s : State). (space_in s q).awaiting) spaces;
-  processes = λ q. ap (λ (m : FinMap nat_cmp declared.Process). is_some (get m q)) processes;
-  marks = λ q. ap (λ (s : State). (space_in s q).speculating) spaces;
-  saves = λ q. ap (λ (m : FinMap nat_cmp declared.Process). saved_of (get m q)) processes;
-})
+places_before : (old new : Machine) → IsAsBefore old new → KeepsPlaces old new
+places_before old new same = record {
+  spaces = λ q. ap (λ (s : State). holds_space s q) same.0;
+  awaiting = λ q. ap (λ (s : State). (space_in s q).awaiting) same.0;
+  processes = λ q. ap (λ (m : FinMap nat_cmp declared.Process). is_some (get m q)) same.2;
+  marks = λ q. ap (λ (s : State). (space_in s q).speculating) same.0;
+  saves = λ q. ap (λ (m : FinMap nat_cmp declared.Process). saved_of (get m q)) same.2;
+}
 
 pub keeps_same : (old new : Machine) → new ≡ old → KeepsSession old new
 keeps_same old new same = record {
-  session = λ spaces drawn is. subst (λ (m : Machine). IsSession m spaces drawn) (sym same) is;
-  free = λ q none. ap (λ (m : Machine). space_in (spaces_of m) q) same;
+  session = λ spaces numbers is. subst (λ (m : Machine). IsSession m spaces numbers) (sym same) is;
+  free = subst (KeepsFree old) (sym same) (free_start old);
+  stay = λ q none. ap (λ (m : Machine). get m.processes q) (sym same) ∙ none;
+}
+
+free_before : (old new : Machine) → IsAsBefore old new → KeepsFree old new
+free_before old new same = record {
+  spaces = λ q none. ap (λ (s : State). space_in s q) same.0;
+  unseen = λ q none unlisted. subst (HasNone q) (sym same.1) unlisted;
 }
 
 pub keeps_before : (old new : Machine) → IsAsBefore old new → KeepsSession old new
 keeps_before old new same = record {
-  session = λ spaces drawn is. session_same old new spaces drawn is same.0 same.2;
-  free = λ q none. ap (λ (s : State). space_in s q) same.0;
+  session = λ spaces numbers is. session_kept old new spaces numbers is (places_before old new same) (free_before old new same);
+  free = free_before old new same;
+  stay = λ q none. ap (λ m. get m q) (sym same.2) ∙ none;
 }
 
 -- A space is given up, with its process where it has one.
-module _ (old new : Machine) (p : ℕ) (spaces : spaces_of new ≡ cut_space (spaces_of old) p) (processes : new.processes ≡ remove old.processes p) where
+module _ (old new : Machine) (p : ℕ) (spaces : spaces_of new ≡ cut_space (spaces_of old) p) (processes : new.processes ≡ remove old.processes p)
+    (lists : lists_of new ≡ flushed p (lists_of old)) where
   process_gone : get new.processes p ≡ None
   process_gone = ap (λ m. get m p) processes ∙ removed_same old.processes p p refl
 
-  process_left : (q : ℕ) → (q ≡ p → ⊥) → get new.processes q ≡ get old.processes q
+  pub process_left : (q : ℕ) → (q ≡ p → ⊥) → get new.processes q ≡ get old.processes q
   process_left q other = ap (λ m. get m q) processes ∙ removed_other old.processes p q other
 
   space_gone : get (spaces_of new).spaces p ≡ None
@@ -243,16 +296,21 @@ module _ (old new : Machine) (p : ℕ) (spaces : spaces_of new ≡ cut_space (sp
   pub same_left : (q : ℕ) → (q ≡ p → ⊥) → space_in (spaces_of new) q ≡ space_in (spaces_of old) q
   same_left q other = ap (λ (s : State). space_in s q) spaces ∙ space_left (spaces_of old) p q other
 
-  pub session_cut : (kept rest : List ℕ) (drawn : ℕ) → IsSession old kept drawn → AllByRecursion (λ q. HasNoProcess old q × (q ≡ p → ⊥)) rest → RiseTo 0 rest drawn
-      → IsSession new rest drawn
-  session_cut kept rest drawn is left rise = record {
-    few = is.few;
-    no_space = λ q above. by_key q p (λ same. ap (has_space new) same ∙ ap is_some space_gone) (λ other. space_stays q other ∙ is.no_space q above);
-    no_process = λ q above. by_key q p
-        (λ same. ap (get new.processes) same ∙ process_gone) (λ other. process_left q other ∙ is.no_process q above);
+  pub session_cut : (kept rest : List ℕ) (numbers left : List (List ℕ)) → IsSession old kept numbers → IsPut numbers p true left → is_number p ≡ true
+      → AllByRecursion (λ q. HasNoProcess old q × (q ≡ p → ⊥)) rest → IsDistinct nat_eq rest
+      → ((q : ℕ) → (q ≡ p → ⊥) → list_any (λ x. x == q) kept ≡ true → list_any (λ x. x == q) rest ≡ true) → IsSession new rest left
+  session_cut kept rest numbers left is given number beside once others = record {
+    are_free = λ q. by_key q p
+        (λ same. ap (is_in left) same ∙ given.here ∙ sym (ap (λ n. is_number n && not (has_space new n)) same
+        ∙ ap (λ b. b && not (has_space new p)) number ∙ ap (λ b. not b) (ap is_some space_gone)))
+        (λ other. given.others q other ∙ is.are_free q ∙ ap (λ b. is_number q && not b) (sym (space_stays q other)));
+    in_range = λ q some. by_key q p (λ same. ap is_number same ∙ number) (λ other. is.in_range q (sym (space_stays q other) ∙ some));
     own_space = λ q some. by_key q p
         (λ same. let lacks = ap is_some (ap (get new.processes) same ∙ process_gone) in let both : false ≡ true = sym lacks ∙ some in cc)
         (λ other. space_stays q other ∙ is.own_space q (sym (ap is_some (process_left q other)) ∙ some));
+    owned = λ q some none. by_key q p
+        (λ same. let both : false ≡ true = sym (ap is_some space_gone) ∙ sym (ap (has_space new) same) ∙ some in cc)
+        (λ other. others q other (is.owned q (sym (space_stays q other) ∙ some) (sym (process_left q other) ∙ none)));
     none_awaits = λ q. by_key q p
         (λ same. ap (λ n. (space_in (spaces_of new) n).awaiting) same ∙ ap (λ (x : SpaceState). x.awaiting) (space_absent (spaces_of new) p space_gone))
         (λ other. ap (λ (x : SpaceState). x.awaiting) (same_left q other) ∙ is.none_awaits q);
@@ -260,8 +318,17 @@ module _ (old new : Machine) (p : ℕ) (spaces : spaces_of new ≡ cut_space (sp
         (λ same. ap (is_marked new) same ∙ ap (λ (x : SpaceState). x.speculating) (space_absent (spaces_of new) p space_gone)
         ∙ sym (ap (has_saved new) same ∙ ap saved_of process_gone))
         (λ other. ap (λ (x : SpaceState). x.speculating) (same_left q other) ∙ is.kept q ∙ sym (ap saved_of (process_left q other)));
-    free = each (λ q. HasNoProcess old q × (q ≡ p → ⊥)) (HasNoProcess new) rest (λ q h. (space_stays q h.1 ∙ h.0.0, process_left q h.1 ∙ h.0.1)) left;
-    rise = rise;
+    free = each (λ q. HasNoProcess old q × (q ≡ p → ⊥)) (HasNoProcess new) rest (λ q h. (space_stays q h.1 ∙ h.0.0, process_left q h.1 ∙ h.0.1)) beside;
+    once = once;
+    unseen = λ q none. subst (HasNone q) (sym lists) (by_key q p
+        (λ same. subst (λ n. HasNone q (flushed n (lists_of old))) same (none_of_own q (lists_of old)))
+        (λ other. none_flushed q p (lists_of old) (is.unseen q (sym (process_left q other) ∙ none))));
+  }
+
+  pub free_cut : is_some (get old.processes p) ≡ true → KeepsFree old new
+  free_cut there = record {
+    spaces = λ q none. same_left q (not_free old p q there none);
+    unseen = λ q none unlisted. subst (HasNone q) (sym lists) (none_flushed q p (lists_of old) unlisted);
   }
 
 pub others_free : (machine : Machine) (p : ℕ) (spaces : List ℕ) → is_some (get machine.processes p) ≡ true → AllByRecursion (HasNoProcess machine) spaces
@@ -273,12 +340,12 @@ abbrev pub AreSame : Machine → Machine → List ℕ → Type 0
 AreSame old new spaces = AllByRecursion (λ q. space_in (spaces_of new) q ≡ space_in (spaces_of old) q) spaces
 
 pub free_same : (old new : Machine) (spaces : List ℕ) → KeepsFree old new → AllByRecursion (HasNoProcess old) spaces → AreSame old new spaces
-free_same old new spaces free all = each (HasNoProcess old) (λ q. space_in (spaces_of new) q ≡ space_in (spaces_of old) q) spaces (λ q h. free q h.1) all
+free_same old new spaces free all = each (HasNoProcess old) (λ q. space_in (spaces_of new) q ≡ space_in (spaces_of old) q) spaces (λ q h. free.spaces q h.1) all
 
 -- where a space under the next number is made
-pub next_same : (old new : Machine) (spaces : List ℕ) (drawn n : ℕ) → IsSession old spaces drawn → drawn < n → StaysBut n old new → AreSame old new spaces
-next_same old new spaces drawn n is above others =
-    each (HasNoProcess old) (λ q. space_in (spaces_of new) q ≡ space_in (spaces_of old) q) spaces (λ q h. others.spaces q (not_next old spaces drawn n q is above h)) is.free
+pub next_same : (old new : Machine) (spaces : List ℕ) (n : ℕ) → AllByRecursion (HasNoProcess old) spaces → has_space old n ≡ false → StaysBut n old new → AreSame old new spaces
+next_same old new spaces n free absent others =
+    each (HasNoProcess old) (λ q. space_in (spaces_of new) q ≡ space_in (spaces_of old) q) spaces (λ q h. others.spaces q (not_next old n q absent h)) free
 
 -- A process put where its space alone changed.
 module _ (old : Machine) (memory : TranslatedView) (p : ℕ) (others : (q : ℕ) → (q ≡ p → ⊥) → space_in (spaces_in memory) q ≡ space_in (spaces_of old) q) where
@@ -303,13 +370,13 @@ module _ (old : Machine) (memory : TranslatedView) (p : ℕ) (others : (q : ℕ)
       (λ other. others_by q other (get old.processes q))
       ∙ sym (processes_at old q))
 
--- the next number is above those drawn, and one of a space
-pub free_number : (drawn n : ℕ) → number_after drawn ≡ Some n → (drawn < n) × (n ≤ LAST_SPACE)
-free_number drawn n is = by_test (nat_lt drawn LAST_SPACE) refl is
+-- a number that is free is one of a space that isn't there
+pub free_number : (machine : Machine) (spaces : List ℕ) (numbers : List (List ℕ)) (n : ℕ) → IsSession machine spaces numbers → is_in numbers n ≡ true
+    → (has_space machine n ≡ false) × (is_number n ≡ true) × (n ≤ LAST_SPACE)
+free_number machine spaces numbers n is free = by_tests (is_number n) refl (has_space machine n) refl (sym (is.are_free n) ∙ free)
   where
-    by_test : (b : Bool) → nat_lt drawn LAST_SPACE ≡ b → cond b (Some (drawn + 1)) None ≡ Some n → (drawn < n) × (n ≤ LAST_SPACE)
-    by_test true left same =
-        let next : drawn + 1 ≡ n = cc in
-        let below : drawn < LAST_SPACE = grind (arith, nat_tests, left) in
-        (omega (arith, next), omega (arith, next, below))
-    by_test false none same = cc
+    by_tests : (b : Bool) → is_number n ≡ b → (c : Bool) → has_space machine n ≡ c → (b && not c) ≡ true
+        → (has_space machine n ≡ false) × (is_number n ≡ true) × (n ≤ LAST_SPACE)
+    by_tests true number false absent h = (absent, number, grind (arith, nat_tests, number))
+    by_tests true number true absent h = cc
+    by_tests false number c absent h = cc

@@ -28,8 +28,8 @@ module _ (p register value : ℕ) (process : declared.Process) (old : Machine) (
 
   pub register_set : ChangesProcess p (Set register value) process old Done (with_process_at old p put)
   register_set =
-      machine_done (process_row p (Set register value) before) old (with_process_at old p put) (λ r. refl) (λ kept breaks drawn. refl) (λ r. refl)
-      (λ kept breaks drawn. wholes_are p process old old.memory there event.Other put (after_set register value before) put_is (λ q other. refl) None (alike_itself (books (spaces_of old))) refl refl)
-      (λ r. refl) (λ r. refl) (λ r. refl)
-      (stays p process old old.memory there event.Other put (after_set register value before) put_is (λ q other. refl) (λ q. refl) refl
+      machine_done (process_row p (Set register value) before) old (with_process_at old p put) (λ r. refl) (λ kept breaks. refl) (λ r. refl)
+      (λ kept breaks. wholes_are p process old old.memory there event.Other put (after_set register value before) put_is (λ q other. refl) None (alike_itself (books (spaces_of old))) refl refl)
+      (λ r. refl) (λ r. refl)
+      (stays p process old old.memory there event.Other put (after_set register value before) put_is (λ q other. refl) None refl (λ q. refl) refl
       (λ h. h ∙ saved_here p process old old.memory there))

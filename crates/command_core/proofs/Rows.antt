@@ -110,17 +110,17 @@ pub gives_still : (s : State) → GivesChange (still_row (registry_of s)) s Done
 gives_still s = row_accepted (still_row (registry_of s)) s s refl refl (still_like s)
 
 -- and neither does compaction, whose moves nothing shows
-pub gives_moved : (old new : Machine) (xs : List Kept) (breaks : Breaks) (drawn : ℕ) → IsAsBefore old new
-    → GivesChange (still_row (registry_of (shown_state old xs breaks drawn))) (shown_state old xs breaks drawn) Done (shown_state new xs breaks drawn)
-gives_moved old new xs breaks drawn same =
+pub gives_moved : (old new : Machine) (xs : List Kept) (breaks : Breaks) → IsAsBefore old new
+    → GivesChange (still_row (registry_of (shown_state old xs breaks))) (shown_state old xs breaks) Done (shown_state new xs breaks)
+gives_moved old new xs breaks same =
     let all = same_wholes old new same in
-    let is : shown_state new xs breaks drawn ≡ shown_state old xs breaks drawn = λ i. record { wholes = all i; checkpoints = checkpoints_in (same.0 i) xs; breakpoints = breaks; drawn = drawn } in
-    subst (λ (s : State). GivesChange (still_row (registry_of (shown_state old xs breaks drawn))) (shown_state old xs breaks drawn) Done s) (sym is) (gives_still (shown_state old xs breaks drawn))
+    let is : shown_state new xs breaks ≡ shown_state old xs breaks = λ i. record { wholes = all i; checkpoints = checkpoints_in (same.0 i) xs; breakpoints = breaks } in
+    subst (λ (s : State). GivesChange (still_row (registry_of (shown_state old xs breaks))) (shown_state old xs breaks) Done s) (sym is) (gives_still (shown_state old xs breaks))
 
 -- The row of a process, by whether it is there.
-module _ (old : Machine) (kept : List Checkpoint) (breaks : Breaks) (drawn p : ℕ) (row : Process → Registry → Row) where
+module _ (old : Machine) (kept : List Checkpoint) (breaks : Breaks) (p : ℕ) (row : Process → Registry → Row) where
   abbrev before : State
-  before = session_state old kept breaks drawn
+  before = session_state old kept breaks
 
   found_is : (o : Option declared.Process) → get old.processes p ≡ o
       → on_process p row (registry_of before) ≡ option_map_or (λ process. row process (registry_of before)) (option_map (whole_in (spaces_of old) p) o) (refused_row NoProcess (registry_of before))
@@ -152,14 +152,14 @@ module _ (before : State) (name : List ℕ) where
 
 -- What a machine answers.
 module _ (row : Registry → Row) (old new : Machine) where
-  same_likes : new ≡ old → (kept : List Checkpoint) (breaks : Breaks) (drawn : ℕ) → AreLikeStates (session_state new kept breaks drawn) (session_state old kept breaks drawn)
-  same_likes same kept breaks drawn =
-      subst (λ (m : Machine). AreLikeStates (session_state m kept breaks drawn) (session_state old kept breaks drawn)) (sym same) (states_itself (session_state old kept breaks drawn))
+  same_likes : new ≡ old → (kept : List Checkpoint) (breaks : Breaks) → AreLikeStates (session_state new kept breaks) (session_state old kept breaks)
+  same_likes same kept breaks =
+      subst (λ (m : Machine). AreLikeStates (session_state m kept breaks) (session_state old kept breaks)) (sym same) (states_itself (session_state old kept breaks))
 
   pub machine_refused : (code : Code) → ((r : Registry) → first_refusal (row r).refusals ≡ Some code) → new ≡ old → MachineGives row old (Refused code) new
   machine_refused code is same = record {
-    gives = λ kept breaks drawn. row_refused (row (registry_of (session_state old kept breaks drawn))) (session_state old kept breaks drawn) (session_state new kept breaks drawn) code
-        (is (registry_of (session_state old kept breaks drawn))) (same_likes same kept breaks drawn);
+    gives = λ kept breaks. row_refused (row (registry_of (session_state old kept breaks))) (session_state old kept breaks) (session_state new kept breaks) code
+        (is (registry_of (session_state old kept breaks))) (same_likes same kept breaks);
     keeps = keeps_same old new same;
     want = tt;
   }
@@ -169,42 +169,42 @@ module _ (row : Registry → Row) (old new : Machine) where
       → needed ≡ event_needs event (wholes old) → limit ≡ unit_limit (wholes old).frames → is_event_full event (wholes old) ≡ true → new ≡ old
       → MachineGives row old (Full needed limit) new
   machine_full event needed limit none may by needed_is limit_is full same = record {
-    gives = λ kept breaks drawn.
-        let before = session_state old kept breaks drawn in
+    gives = λ kept breaks.
+        let before = session_state old kept breaks in
         let r = registry_of before in
-        row_full (row r) before (session_state new kept breaks drawn) needed limit (none r) (may r) (ap (λ e. is_event_full e before.wholes) (by r) ∙ full)
-        (needed_is ∙ sym (ap (λ e. event_needs e before.wholes) (by r))) limit_is (same_likes same kept breaks drawn);
+        row_full (row r) before (session_state new kept breaks) needed limit (none r) (may r) (ap (λ e. is_event_full e before.wholes) (by r) ∙ full)
+        (needed_is ∙ sym (ap (λ e. event_needs e before.wholes) (by r))) limit_is (same_likes same kept breaks);
     keeps = keeps_same old new same;
     want = tt;
   }
 
   pub machine_done : ((r : Registry) → first_refusal (row r).refusals ≡ None)
-      → ((kept : List Checkpoint) (breaks : Breaks) (drawn : ℕ) → row_is_full (row (registry_of (session_state old kept breaks drawn))) (session_state old kept breaks drawn) ≡ false)
+      → ((kept : List Checkpoint) (breaks : Breaks) → row_is_full (row (registry_of (session_state old kept breaks))) (session_state old kept breaks) ≡ false)
       → ((r : Registry) → (row r).answer ≡ Done)
-      → ((kept : List Checkpoint) (breaks : Breaks) (drawn : ℕ) → AreLike (wholes new) (accepts (row (registry_of (session_state old kept breaks drawn))) (session_state old kept breaks drawn)).after.wholes)
+      → ((kept : List Checkpoint) (breaks : Breaks) → AreLike (wholes new) (accepts (row (registry_of (session_state old kept breaks))) (session_state old kept breaks)).after.wholes)
       → ((r : Registry) → r.checkpoints ≡ (row r).after.checkpoints) → ((r : Registry) → r.breakpoints ≡ (row r).after.breakpoints)
-      → ((r : Registry) → r.drawn ≡ (row r).after.drawn) → KeepsSession old new → MachineGives row old Done new
-  machine_done none enough answers like kept_is breaks_is drawn_is keeps = record {
-    gives = λ kept breaks drawn.
-        let before = session_state old kept breaks drawn in
+      → KeepsSession old new → MachineGives row old Done new
+  machine_done none enough answers like kept_is breaks_is keeps = record {
+    gives = λ kept breaks.
+        let before = session_state old kept breaks in
         let r = registry_of before in
-        subst (λ answer. ComesTo (change_by (row r) before) answer (session_state new kept breaks drawn)) (answers r)
-        (row_accepted (row r) before (session_state new kept breaks drawn) (none r) (enough kept breaks drawn)
-        (record { wholes = like kept breaks drawn; checkpoints = kept_is r; breakpoints = breaks_is r; drawn = drawn_is r }));
+        subst (λ answer. ComesTo (change_by (row r) before) answer (session_state new kept breaks)) (answers r)
+        (row_accepted (row r) before (session_state new kept breaks) (none r) (enough kept breaks)
+        (record { wholes = like kept breaks; checkpoints = kept_is r; breakpoints = breaks_is r }));
     keeps = keeps;
     want = tt;
   }
 
 -- What is shown of checkpoints stays where their spaces do.
-module _ (row : Registry → Row) (old new : Machine) (xs : List Kept) (breaks : Breaks) (drawn : ℕ) (same : AreSame old new (spaces_kept xs)) where
-  pub gives_left : (answer : Answer) (left : Breaks) (after : ℕ)
-      → GivesChange (row (registry_of (shown_state old xs breaks drawn))) (shown_state old xs breaks drawn) answer (session_state new (checkpoints_in (spaces_of old) xs) left after)
-      → GivesChange (row (registry_of (shown_state old xs breaks drawn))) (shown_state old xs breaks drawn) answer (shown_state new xs left after)
-  gives_left answer left after given =
-      subst (λ (cs : List Checkpoint). GivesChange (row (registry_of (shown_state old xs breaks drawn))) (shown_state old xs breaks drawn) answer (session_state new cs left after))
+module _ (row : Registry → Row) (old new : Machine) (xs : List Kept) (breaks : Breaks) (same : AreSame old new (spaces_kept xs)) where
+  pub gives_left : (answer : Answer) (left : Breaks)
+      → GivesChange (row (registry_of (shown_state old xs breaks))) (shown_state old xs breaks) answer (session_state new (checkpoints_in (spaces_of old) xs) left)
+      → GivesChange (row (registry_of (shown_state old xs breaks))) (shown_state old xs breaks) answer (shown_state new xs left)
+  gives_left answer left given =
+      subst (λ (cs : List Checkpoint). GivesChange (row (registry_of (shown_state old xs breaks))) (shown_state old xs breaks) answer (session_state new cs left))
       (sym (all_shown (spaces_of new) (spaces_of old) xs same)) given
 
-  pub gives_kept : (answer : Answer) (after : ℕ)
-      → GivesChange (row (registry_of (shown_state old xs breaks drawn))) (shown_state old xs breaks drawn) answer (session_state new (checkpoints_in (spaces_of old) xs) breaks after)
-      → GivesChange (row (registry_of (shown_state old xs breaks drawn))) (shown_state old xs breaks drawn) answer (shown_state new xs breaks after)
-  gives_kept answer after given = gives_left answer breaks after given
+  pub gives_kept : (answer : Answer)
+      → GivesChange (row (registry_of (shown_state old xs breaks))) (shown_state old xs breaks) answer (session_state new (checkpoints_in (spaces_of old) xs) breaks)
+      → GivesChange (row (registry_of (shown_state old xs breaks))) (shown_state old xs breaks) answer (shown_state new xs breaks)
+  gives_kept answer given = gives_left answer breaks given

@@ -39,7 +39,9 @@ use Rattle.command_core.specs.Giving.{MachineGives}
 use Rattle.command_core.specs.Refusals.{by_not_speculating, by_speculating}
 use Rattle.command_core.specs.ProcessChanges.{ChangesProcess, after_commit, after_discard, after_speculate, leaves, process_row, promotion_answer, speculation_answer}
 use Rattle.command_core.proofs.Keeping.{each}
-use Rattle.command_core.proofs.Places.{marked_is, none_is, not_free, processes_put}
+use Rattle.command_core.proofs.Places.{marked_is, none_flushed_by, none_is, not_free, processes_put}
+use Rattle.free_numbers.specs.Numbers.{is_number}
+use Rattle.translation_cache.specs.Absent.{HasNone}
 use Rattle.command_core.proofs.Rows.{fits, is_short, machine_done, machine_full, machine_refused}
 
 -- A machine of which the overlays of one process were changed.
@@ -83,19 +85,21 @@ module _ (p : ℕ) (process : declared.Process) (old : Machine) (memory : Transl
     unfolding ledger_by
     wholes_are flushes ledger frames lists = record { processes = processes_are; ledger = ledger; frames = frames; translations = lists }
 
-    pub stays : ((q : ℕ) → holds_space (state_of memory) q ≡ holds_space (spaces_of old) q)
+    pub stays : (flushes : Option ℕ) → translations_of memory ≡ flushed_by flushes (lists_of old) → ((q : ℕ) → holds_space (state_of memory) q ≡ holds_space (spaces_of old) q)
         → (space_in (state_of memory) p).awaiting ≡ (space_in (spaces_of old) p).awaiting
         → (is_marked old p ≡ has_saved old p → (space_in (state_of memory) p).speculating ≡ is_some put.saved) → KeepsSession old new
-    stays spaces awaiting kept =
+    stays flushes lists spaces awaiting kept =
         let found : (q : ℕ) → is_some (get new.processes q) ≡ is_some (get old.processes q) = λ q. by_key q p
         (λ same. ap is_some (get_same old.processes p q put same) ∙ sym (ap (λ n. is_some (get old.processes n)) same ∙ ap is_some there))
         (λ other. ap is_some (get_other old.processes p q put other)) in
+        let unlisted : (q : ℕ) → HasNone q (lists_of old) → HasNone q (translations_of memory) =
+        λ q none. subst (HasNone q) (sym lists) (none_flushed_by flushes q (lists_of old) none) in
         record {
-          session = λ free_spaces drawn session. record {
-            few = session.few;
-            no_space = λ q above. spaces q ∙ session.no_space q above;
-            no_process = λ q above. none_is (get new.processes q) (found q ∙ ap is_some (session.no_process q above));
+          session = λ free_spaces numbers session. record {
+            are_free = λ q. session.are_free q ∙ ap (λ b. is_number q && not b) (sym (spaces q));
+            in_range = λ q some. session.in_range q (sym (spaces q) ∙ some);
             own_space = λ q some. spaces q ∙ session.own_space q (sym (found q) ∙ some);
+            owned = λ q some none. session.owned q (sym (spaces q) ∙ some) (none_is (get old.processes q) (sym (found q) ∙ ap is_some none));
             none_awaits = λ q. by_key q p
                 (λ same. ap (λ n. (space_in (state_of memory) n).awaiting) same ∙ awaiting ∙ session.none_awaits p)
                 (λ other. ap (λ (s : SpaceState). s.awaiting) (others q other) ∙ session.none_awaits q);
@@ -103,9 +107,11 @@ module _ (p : ℕ) (process : declared.Process) (old : Machine) (memory : Transl
                 (λ same. ap (is_marked new) same ∙ kept (session.kept p) ∙ sym (ap saved_of (get_same old.processes p q put same)))
                 (λ other. ap (λ (s : SpaceState). s.speculating) (others q other) ∙ session.kept q ∙ sym (ap saved_of (get_other old.processes p q put other)));
             free = each (HasNoProcess old) (HasNoProcess new) free_spaces (λ q h. (spaces q ∙ h.0, none_is (get new.processes q) (found q ∙ ap is_some h.1))) session.free;
-            rise = session.rise;
+            once = session.once;
+            unseen = λ q none. unlisted q (session.unseen q (none_is (get old.processes q) (sym (found q) ∙ ap is_some none)));
           };
-          free = λ q none. others q (not_free old p q (ap is_some there) none);
+          free = record { spaces = λ q none. others q (not_free old p q (ap is_some there) none); unseen = λ q none. unlisted q };
+          stay = λ q none. none_is (get old.processes q) (sym (found q) ∙ ap is_some none);
         }
 
   -- the process in its place again
@@ -150,9 +156,9 @@ module _ (p : ℕ) (process : declared.Process) (old : Machine) (memory : Transl
       let kept = kept_by (Some saved) true (memory_of (spaces_of old) p) s.marked (has.base ∙ s.memory) in
       let is : whole_in (state_of memory) p begun ≡ after_speculate before =
       λ i. record { registers = process.regs; state = process.state; memory = s.memory i; kept = kept i } in
-      machine_done begins old (with_process_at mid p begun) (start_refusal false run unmarked) (λ kept breaks drawn. fits (event.Settle p) old within) (λ r. refl)
-      (λ kept breaks drawn. wholes_are (event.Settle p) begun (after_speculate before) is s.others (Some p) has.ledger s.frames lists) (λ r. refl) (λ r. refl) (λ r. refl)
-      (stays (event.Settle p) begun (after_speculate before) is s.others s.spaces s.awaiting (λ h. s.marked))
+      machine_done begins old (with_process_at mid p begun) (start_refusal false run unmarked) (λ kept breaks. fits (event.Settle p) old within) (λ r. refl)
+      (λ kept breaks. wholes_are (event.Settle p) begun (after_speculate before) is s.others (Some p) has.ledger s.frames lists) (λ r. refl) (λ r. refl)
+      (stays (event.Settle p) begun (after_speculate before) is s.others (Some p) lists s.spaces s.awaiting (λ h. s.marked))
 
   pub not_started : (e : SpeculationError) → Starts old.memory memory p (Err e) → runs process.state ≡ true → ChangesProcess p Speculate process old (speculation_answer e) mid
   not_started speculation.Speculating had run = machine_refused begins old mid Speculating (start_refusal true run had.mark_is) (ap (with_memory old) had.kept)
@@ -178,9 +184,9 @@ module _ (p : ℕ) (process : declared.Process) (old : Machine) (memory : Transl
       let is : whole_in (state_of memory) p forgotten ≡ after_commit before =
       λ i. record { registers = process.regs; state = process.state; memory = s.memory i; kept = kept i } in
       let ledger = subst (AreAlike (books (state_of memory))) has.ledger (alike_itself (books (state_of memory))) in
-      machine_done (ends Commit) old (with_process_at mid p forgotten) (λ r. end_refusal true marked) (λ kept breaks drawn. refl) (λ r. refl)
-      (λ kept breaks drawn. wholes_are (event.Commit p) forgotten (after_commit before) is s.others (Some p) ledger s.frames lists) (λ r. refl) (λ r. refl) (λ r. refl)
-      (stays (event.Commit p) forgotten (after_commit before) is s.others s.spaces s.awaiting (λ h. s.marked))
+      machine_done (ends Commit) old (with_process_at mid p forgotten) (λ r. end_refusal true marked) (λ kept breaks. refl) (λ r. refl)
+      (λ kept breaks. wholes_are (event.Commit p) forgotten (after_commit before) is s.others (Some p) ledger s.frames lists) (λ r. refl) (λ r. refl)
+      (stays (event.Commit p) forgotten (after_commit before) is s.others (Some p) lists s.spaces s.awaiting (λ h. s.marked))
 
   pub not_committed : (e : SpeculationError) → Commits old.memory memory p (Err e) → ChangesProcess p Commit process old (speculation_answer e) mid
   not_committed speculation.Speculating h = absurd h
@@ -210,9 +216,9 @@ module _ (p : ℕ) (process : declared.Process) (old : Machine) (memory : Transl
       λ i. record { registers = saved.regs; state = saved.state; memory = has.memory i; kept = kept i } in
       let ledger = subst (AreAlike (books (state_of memory))) has.ledger (alike_itself (books (state_of memory))) in
       subst (λ (o : Option Whole). MachineGives (goes_back o) old Done (with_process_at mid p (again saved))) (sym was)
-      (machine_done (goes_back (Some whole)) old (with_process_at mid p (again saved)) (λ r. refl) (λ kept breaks drawn. refl) (λ r. refl)
-      (λ kept breaks drawn. wholes_are (event.Discard p) (again saved) (after_discard whole) is has.others (Some p) ledger has.frames lists) (λ r. refl) (λ r. refl) (λ r. refl)
-      (stays (event.Discard p) (again saved) (after_discard whole) is has.others has.spaces has.awaiting (λ h. has.marked)))
+      (machine_done (goes_back (Some whole)) old (with_process_at mid p (again saved)) (λ r. refl) (λ kept breaks. refl) (λ r. refl)
+      (λ kept breaks. wholes_are (event.Discard p) (again saved) (after_discard whole) is has.others (Some p) ledger has.frames lists) (λ r. refl) (λ r. refl)
+      (stays (event.Discard p) (again saved) (after_discard whole) is has.others (Some p) lists has.spaces has.awaiting (λ h. has.marked)))
 
   pub not_discarded : (e : SpeculationError) → Discards old.memory memory p (Err e) → ChangesProcess p Discard process old (speculation_answer e) mid
   not_discarded speculation.Speculating h = absurd h
@@ -237,15 +243,15 @@ module _ (p : ℕ) (process : declared.Process) (old : Machine) (memory : Transl
         (wholes_are e process before process_is s.others (Some p) ledger s.frames lists))
 
     promoted_stays : KeepsSession old mid
-    promoted_stays = subst (KeepsSession old) put_again (stays e process before process_is s.others s.spaces s.awaiting (λ h. s.marked ∙ h ∙ saved_here))
+    promoted_stays = subst (KeepsSession old) put_again (stays e process before process_is s.others (Some p) lists s.spaces s.awaiting (λ h. s.marked ∙ h ∙ saved_here))
 
   all_refusal : (mark : Bool) → is_marked old p ≡ mark → (r : Registry) → first_refusal (process_row p PromoteAll before r).refusals ≡ first_refusal (by_speculating mark ∷ [])
   all_refusal mark is r = ap (λ b. first_refusal (by_speculating b ∷ [])) (speculates mark is)
 
   pub all_promoted : PromotesAll old.memory memory p (Ok tt) → translations_of memory ≡ flushed p (lists_of old) → ChangesProcess p PromoteAll process old Done mid
   all_promoted (unmarked, within, has) lists =
-      machine_done (process_row p PromoteAll before) old mid (all_refusal false unmarked) (λ kept breaks drawn. fits (event.Settle p) old within) (λ r. refl)
-      (λ kept breaks drawn. promoted _ has.settled unmarked (event.Settle p) lists has.ledger) (λ r. refl) (λ r. refl) (λ r. refl) (promoted_stays _ has.settled unmarked (event.Settle p) lists has.ledger)
+      machine_done (process_row p PromoteAll before) old mid (all_refusal false unmarked) (λ kept breaks. fits (event.Settle p) old within) (λ r. refl)
+      (λ kept breaks. promoted _ has.settled unmarked (event.Settle p) lists has.ledger) (λ r. refl) (λ r. refl) (promoted_stays _ has.settled unmarked (event.Settle p) lists has.ledger)
 
   pub none_promoted : (e : PromoteError) (address : ℕ) → PromotesAll old.memory memory p (Err e) → ChangesProcess p PromoteAll process old (promotion_answer address e) mid
   none_promoted (promote.Unmapped at) address h = absurd h
@@ -280,8 +286,8 @@ module _ (p : ℕ) (process : declared.Process) (old : Machine) (memory : Transl
     pub page_promoted : Promotes old.memory memory p (address / PAGE_BYTES) (Ok tt) → translations_of memory ≡ flushed p (lists_of old) → ChangesProcess p (Promote address) process old Done mid
     page_promoted (unmarked, has) lists =
         let e = event.SettlePage p (address / PAGE_BYTES) in
-        machine_done one old mid (here_refusal unmarked has.there) (λ kept breaks drawn. fits e old has.fits) (λ r. refl)
-        (λ kept breaks drawn. promoted _ has.settled unmarked e lists has.ledger) (λ r. refl) (λ r. refl) (λ r. refl) (promoted_stays _ has.settled unmarked e lists has.ledger)
+        machine_done one old mid (here_refusal unmarked has.there) (λ kept breaks. fits e old has.fits) (λ r. refl)
+        (λ kept breaks. promoted _ has.settled unmarked e lists has.ledger) (λ r. refl) (λ r. refl) (promoted_stays _ has.settled unmarked e lists has.ledger)
 
     pub not_promoted : (e : PromoteError) → Promotes old.memory memory p (address / PAGE_BYTES) (Err e)
         → ChangesProcess p (Promote address) process old (promotion_answer address e) mid

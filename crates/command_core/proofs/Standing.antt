@@ -74,12 +74,11 @@ module _ (breaks : Breaks) where
       )
 
 -- what is kept of the rest
-pub rest_kept : (old new : Machine) (xs : List Kept) (breaks : Breaks) (drawn : ℕ) (modes : Modes) → IsSession old (spaces_kept xs) drawn → KeepsFree old new
-    → KeepsRest (shown_session old xs breaks drawn modes) (shown_session new xs breaks drawn modes)
-rest_kept old new xs breaks drawn modes is free = record {
+pub rest_kept : (old new : Machine) (xs : List Kept) (breaks : Breaks) (modes : Modes) (numbers : List (List ℕ)) → IsSession old (spaces_kept xs) numbers → KeepsFree old new
+    → KeepsRest (shown_session old xs breaks modes) (shown_session new xs breaks modes)
+rest_kept old new xs breaks modes numbers is free = record {
   checkpoints = all_shown (spaces_of new) (spaces_of old) xs (free_same old new (spaces_kept xs) free is.free);
   breakpoints = refl;
-  drawn = refl;
   modes = refl;
 }
 
@@ -91,7 +90,6 @@ after_stands old new state left rest stands like =
       wholes = like;
       checkpoints = rest.checkpoints ∙ stands.checkpoints;
       breakpoints = rest.breakpoints ∙ stands.breakpoints;
-      drawn = rest.drawn ∙ stands.drawn;
     }
 
 pub turns_as : (old new : InSession) (running after : InRun) (r : Option (ℕ × Turn)) → takes_turn running r after old.state new.state → KeepsRest old new

@@ -88,7 +88,7 @@ module _ (p : ℕ) (process : declared.Process) (old : Machine) (memory : Transl
     poked_stays : KeepsSession old mid
     poked_stays =
         subst (KeepsSession old) (put_again p process old memory there)
-        (stays p process old memory there stored process left whole_is s.others s.spaces s.awaiting (λ h. s.mark ∙ h ∙ saved_here p process old memory there))
+        (stays p process old memory there stored process left whole_is s.others None lists s.spaces s.awaiting (λ h. s.mark ∙ h ∙ saved_here p process old memory there))
 
     -- there are units enough
     within : Fits (state_of memory) → FitsAfter stored (spaces_of old)
@@ -99,10 +99,10 @@ module _ (p : ℕ) (process : declared.Process) (old : Machine) (memory : Transl
   pub poked : Stores old.memory.pages memory.pages p address bytes (Ok tt) → translations_of memory ≡ lists_of old → Fits (state_of memory) → MachineGives poking old Done mid
   poked (allowed, s) lists enough =
       machine_done poking old mid (refusal_is None allowed)
-      (λ kept breaks drawn. ap (λ e. is_event_full e (wholes old)) (sym event_is) ∙ fits stored old (within s lists enough)) (λ r. refl)
-      (λ kept breaks drawn. subst (λ e. AreLike (wholes mid)
+      (λ kept breaks. ap (λ e. is_event_full e (wholes old)) (sym event_is) ∙ fits stored old (within s lists enough)) (λ r. refl)
+      (λ kept breaks. subst (λ e. AreLike (wholes mid)
       (wholes_left e None old (insert (processes_of old) p (left s lists)))) event_is (poked_like s lists))
-      (λ r. refl) (λ r. refl) (λ r. refl) (poked_stays s lists)
+      (λ r. refl) (λ r. refl) (poked_stays s lists)
 
   pub not_poked : (e : MemoryError) → Stores old.memory.pages memory.pages p address bytes (Err e) → memory ≡ old.memory → MachineGives poking old (poke_answer e) mid
   not_poked (access.Unmapped at) (is, kept) same =

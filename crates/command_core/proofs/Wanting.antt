@@ -21,18 +21,18 @@ use Rattle.command_core.specs.Copies.{CopyFails}
 pub told_keeps : (session old new : InSession) (told answer : Answer) → old ≡ session → told ≡ answer → WantKeeps old answer new → WantKeeps session told new
 told_keeps session old new told answer is same kept = subst (λ (s : InSession). WantKeeps s told new) is (subst (λ a. WantKeeps old a new) (sym same) kept)
 
-module _ (old new : Machine) (xs : List Kept) (breaks : Breaks) (drawn : ℕ) (modes : Modes) where
+module _ (old new : Machine) (xs : List Kept) (breaks : Breaks) (modes : Modes) where
   abbrev before : InSession
-  before = shown_session old xs breaks drawn modes
+  before = shown_session old xs breaks modes
 
   abbrev after : InSession
-  after = shown_session new xs breaks drawn modes
+  after = shown_session new xs breaks modes
 
   same_session : IsAsBefore old new → after ≡ before
   same_session same =
       let all = same_wholes old new same in
       λ i. record {
-        state = record { wholes = all i; checkpoints = checkpoints_in (same.0 i) xs; breakpoints = breaks; drawn = drawn };
+        state = record { wholes = all i; checkpoints = checkpoints_in (same.0 i) xs; breakpoints = breaks };
         modes = modes;
         bases = bases_of (same.0 i);
       }

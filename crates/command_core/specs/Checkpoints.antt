@@ -34,7 +34,6 @@ checkpoints_but name (x ∷ xs) = if pointwise nat_eq name x.name then xs else x
 abbrev pub saves : ℕ → List ℕ → Process → Registry → Registry
 saves n name process registry = record registry {
   checkpoints = registry.checkpoints ++ record { name = name; space = n; whole = whole_of process } ∷ [];
-  drawn = n;
 }
 
 abbrev pub checkpoint_refusals : Bool → Bool → Option ℕ → List (Option Code)

@@ -61,9 +61,9 @@ breaks_code = code coded_ℕ (set_code coded_ℕ)
 
 abbrev pub state_code : Coded State
 state_code =
-    code_by (Wholes × (List Checkpoint × (Breaks × ℕ))) (coded× wholes_code (coded× (coded_list checkpoint_code) (coded× breaks_code coded_ℕ)))
-    (λ s. (s.wholes, (s.checkpoints, (s.breakpoints, s.drawn))))
-    (λ t. record { wholes = t.0; checkpoints = t.1.0; breakpoints = t.1.1.0; drawn = t.1.1.1 }) (λ _. refl)
+    code_by (Wholes × (List Checkpoint × Breaks)) (coded× wholes_code (coded× (coded_list checkpoint_code) breaks_code))
+    (λ s. (s.wholes, (s.checkpoints, s.breakpoints)))
+    (λ t. record { wholes = t.0; checkpoints = t.1.0; breakpoints = t.1.1 }) (λ _. refl)
 
 abbrev pub bases_code : Coded Bases
 bases_code = code coded_ℕ bytes_code

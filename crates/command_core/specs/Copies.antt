@@ -20,7 +20,7 @@ use Rattle.command_core.specs.Refusals.{by_ended, by_numbers_used, by_speculatin
 -- a further process, under this number, without breakpoints
 abbrev pub draws : ℕ → Process → Registry → Registry
 draws n process registry =
-    record registry { processes = insert registry.processes n process; breakpoints = remove registry.breakpoints n; drawn = n }
+    record registry { processes = insert registry.processes n process; breakpoints = remove registry.breakpoints n }
 
 abbrev pub fork_refusals : ProcessState → Bool → Option ℕ → List (Option Code)
 fork_refusals state speculating next = by_ended state ∷ by_speculating speculating ∷ by_numbers_used next ∷ []

@@ -31,10 +31,9 @@ abbrev pub WantKeepsMachine : Machine → Answer → Machine → Type 0
 WantKeepsMachine old Memory new = IsAsBefore old new
 WantKeepsMachine old answer new = Unit {0}
 
--- what a machine answers of it, whatever checkpoints and breakpoints there are and however many numbers were drawn; and it stays that of
--- a session
+-- what a machine answers of it, whatever checkpoints and breakpoints there are; and it stays that of a session
 pub record MachineGives (row : Registry → Row) (old : Machine) (answer : Answer) (new : Machine) : Type 0 where
-  pub gives : (kept : List Checkpoint) (breaks : Breaks) (drawn : ℕ)
-      → GivesChange (row (registry_of (session_state old kept breaks drawn))) (session_state old kept breaks drawn) answer (session_state new kept breaks drawn)
+  pub gives : (kept : List Checkpoint) (breaks : Breaks)
+      → GivesChange (row (registry_of (session_state old kept breaks))) (session_state old kept breaks) answer (session_state new kept breaks)
   pub keeps : KeepsSession old new
   pub want : WantKeepsMachine old answer new

@@ -45,12 +45,12 @@ abbrev pub checkpoints_in : State → List Kept → List Checkpoint
 checkpoints_in spaces xs = map (checkpoint_in spaces) xs
 
 -- the state that a session shows, and the session
-abbrev pub shown_state : Machine → List Kept → Breaks → ℕ → Shown
-shown_state machine xs breakpoints drawn = session_state machine (checkpoints_in (spaces_of machine) xs) breakpoints drawn
+abbrev pub shown_state : Machine → List Kept → Breaks → Shown
+shown_state machine xs breakpoints = session_state machine (checkpoints_in (spaces_of machine) xs) breakpoints
 
-abbrev pub shown_session : Machine → List Kept → Breaks → ℕ → Modes → InSession
-shown_session machine xs breakpoints drawn modes =
-    record { state = shown_state machine xs breakpoints drawn; modes = modes; bases = bases_of (spaces_of machine) }
+abbrev pub shown_session : Machine → List Kept → Breaks → Modes → InSession
+shown_session machine xs breakpoints modes =
+    record { state = shown_state machine xs breakpoints; modes = modes; bases = bases_of (spaces_of machine) }
 
 -- the spaces of checkpoints
 abbrev pub spaces_kept : List Kept → List ℕ

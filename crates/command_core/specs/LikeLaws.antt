@@ -41,14 +41,13 @@ use Rattle.command_core.specs.Standing.{GivesAs}
 -- States that differ in the numbers of origins alone come to the same texts, and stay so.
 
 pub states_itself : (a : State) → AreLikeStates a a
-states_itself a = record { wholes = like_itself a.wholes; checkpoints = refl; breakpoints = refl; drawn = refl }
+states_itself a = record { wholes = like_itself a.wholes; checkpoints = refl; breakpoints = refl }
 
 pub states_chain : (a b c : State) → AreLikeStates a b → AreLikeStates b c → AreLikeStates a c
 states_chain a b c h k = record {
   wholes = like_chain a.wholes b.wholes c.wholes h.wholes k.wholes;
   checkpoints = h.checkpoints ∙ k.checkpoints;
   breakpoints = h.breakpoints ∙ k.breakpoints;
-  drawn = h.drawn ∙ k.drawn;
 }
 
 pub states_same : (a b : State) → a ≡ b → AreLikeStates a b
@@ -193,7 +192,7 @@ module _ (breaks : Breaks) (state : Wholes) (run : Progress) where
 -- Changes.
 
 pub registries_same : (a b : State) → AreLikeStates a b → registry_of a ≡ registry_of b
-registries_same a b like = λ i. record { processes = like.wholes.processes i; checkpoints = like.checkpoints i; breakpoints = like.breakpoints i; drawn = like.drawn i }
+registries_same a b like = λ i. record { processes = like.wholes.processes i; checkpoints = like.checkpoints i; breakpoints = like.breakpoints i }
 
 -- one comes to what another does
 abbrev pub AreLikeChanges : Changed State → Changed State → Type 0
@@ -233,7 +232,6 @@ module _ (row : Row) (a b : State) (like : AreLikeStates a b) where
           };
           checkpoints = refl;
           breakpoints = refl;
-          drawn = refl;
         };
       }
   like_within true false same = cc
@@ -298,7 +296,7 @@ like_takes run a b like =
     subst (λ (bs : Breaks). AreLikePerformed (takes_turns run a) (takes_by bs run b)) like.breakpoints
     (record {
       text = like_text _ _ rans;
-      after = record { wholes = rans.after; checkpoints = like.checkpoints; breakpoints = like.breakpoints; drawn = like.drawn };
+      after = record { wholes = rans.after; checkpoints = like.checkpoints; breakpoints = like.breakpoints };
       wants = refl;
     })
 

@@ -1,15 +1,16 @@
-use Rattle.std.specs.Prelude.{◌≡◌, ℕ, ◌<◌, ◌≤◌, true, false, List, [], ◌∷◌, None}
+use Rattle.std.specs.Prelude.{◌≡◌, ℕ, ◌==◌, ◌&&◌, nat_eq, not, true, List, None}
 use Rattle.std.specs.Option.{is_some}
-use Rattle.std.specs.List.{AllByRecursion}
+use Rattle.std.specs.List.{AllByRecursion, IsDistinct, list_any}
 use Rattle.std.specs.Ordering.{nat_cmp}
 use Rattle.std.specs.FinMap.{FinMap, empty, get}
 use Rattle.number_maps.specs.Views.{viewed}
 use Rattle.ovl_io.specs.Memory.{Memory}
 use Rattle.overlay_pages.specs.State.{State as Spaces, base_of}
 use Rattle.breakpoints.specs.Breakpoints.{Breaks}
-use Rattle.sizes.specs.declared.TheConstants.{LAST_SPACE}
+use Rattle.free_numbers.specs.Numbers.{is_in, is_number}
+use Rattle.translation_cache.specs.Absent.{HasNone}
 use Rattle.space_maps.specs.Spaces.{space_in}
-use Rattle.machine_core.specs.Machine.{Machine, has_saved, has_space, is_marked, spaces_of, wholes}
+use Rattle.machine_core.specs.Machine.{Machine, has_saved, has_space, is_marked, lists_of, spaces_of, wholes}
 use Rattle.command_core.specs.declared.modes.Modes.{Modes}
 use Rattle.command_core.specs.State.{Checkpoint, State, fresh}
 
@@ -27,41 +28,47 @@ NoPageAwaits machine = (p : ℕ) → (space_in (spaces_of machine) p).awaiting �
 abbrev pub HasNoProcess : Machine → ℕ → Type 0
 HasNoProcess machine q = (has_space machine q ≡ true) × (get machine.processes q ≡ None)
 
--- numbers that rise, from above one up to another one
-abbrev pub RiseTo : ℕ → List ℕ → ℕ → Type 0
-RiseTo above [] last = above ≤ last
-RiseTo above (q ∷ qs) last = (above < q) × RiseTo q qs last
+-- what no process has was never translated
+abbrev pub NoneSeen : Machine → Type 0
+NoneSeen machine = (p : ℕ) → get machine.processes p ≡ None → HasNone p (lists_of machine)
 
--- A session keeps a machine, and the spaces of checkpoints: the numbers above those drawn are free, each process has its memory, no page
--- awaits being shared, registers and state are kept of exactly those processes whose spaces are marked as speculating, and the spaces
--- of checkpoints have no process. Those rise, since each was drawn when it was made.
-pub record IsSession (machine : Machine) (spaces : List ℕ) (drawn : ℕ) : Type 0 where
-  pub few : drawn ≤ LAST_SPACE
-  pub no_space : (p : ℕ) → drawn < p → has_space machine p ≡ false
-  pub no_process : (p : ℕ) → drawn < p → get machine.processes p ≡ None
+-- A session keeps a machine, the spaces of checkpoints, and which numbers are free: those of spaces that aren't there. Each process has its
+-- memory, and each other space is a checkpoint's, which has no process and no other checkpoint. No page awaits being shared, registers and
+-- state are kept of exactly those processes whose spaces are marked as speculating, and nothing was translated but for processes.
+pub record IsSession (machine : Machine) (spaces : List ℕ) (numbers : List (List ℕ)) : Type 0 where
+  pub are_free : (p : ℕ) → is_in numbers p ≡ (is_number p && not (has_space machine p))
+  pub in_range : (p : ℕ) → has_space machine p ≡ true → is_number p ≡ true
   pub own_space : OwnSpaces machine
+  pub owned : (p : ℕ) → has_space machine p ≡ true → get machine.processes p ≡ None → list_any (λ q. q == p) spaces ≡ true
   pub none_awaits : NoPageAwaits machine
   pub kept : (p : ℕ) → is_marked machine p ≡ has_saved machine p
   pub free : AllByRecursion (HasNoProcess machine) spaces
-  pub rise : RiseTo 0 spaces drawn
+  pub once : IsDistinct nat_eq spaces
+  pub unseen : NoneSeen machine
 
--- each space without a process is as it was
-abbrev pub KeepsFree : Machine → Machine → Type 0
-KeepsFree old new = (q : ℕ) → get old.processes q ≡ None → space_in (spaces_of new) q ≡ space_in (spaces_of old) q
+-- each space without a process is as it was, and still nothing of it was translated
+pub record KeepsFree (old new : Machine) : Type 0 where
+  pub spaces : (q : ℕ) → get old.processes q ≡ None → space_in (spaces_of new) q ≡ space_in (spaces_of old) q
+  pub unseen : (q : ℕ) → get old.processes q ≡ None → HasNone q (lists_of old) → HasNone q (lists_of new)
 
--- what a machine is a session of, another one is too, and its checkpoints are as they were
+-- no process goes
+abbrev pub NoneGoes : Machine → Machine → Type 0
+NoneGoes old new = (q : ℕ) → get new.processes q ≡ None → get old.processes q ≡ None
+
+-- what a machine is a session of, another one is too, its checkpoints are as they were, and so are the numbers of its processes
 pub record KeepsSession (old new : Machine) : Type 0 where
-  pub session : (spaces : List ℕ) (drawn : ℕ) → IsSession old spaces drawn → IsSession new spaces drawn
+  pub session : (spaces : List ℕ) (numbers : List (List ℕ)) → IsSession old spaces numbers → IsSession new spaces numbers
   pub free : KeepsFree old new
+  pub stay : NoneGoes old new
 
--- no number above those drawn has breakpoints
-abbrev pub NoBreaksAbove : ℕ → Breaks → Type 0
-NoBreaksAbove drawn breakpoints = (p : ℕ) → drawn < p → get breakpoints p ≡ None
+-- what isn't the number of a process has no breakpoints
+abbrev pub AreBreaksOf : Machine → Breaks → Type 0
+AreBreaksOf machine breakpoints = (p : ℕ) → get machine.processes p ≡ None → get breakpoints p ≡ None
 
--- the state that a machine shows, with these checkpoints and breakpoints, and so many numbers drawn
-abbrev pub session_state : Machine → List Checkpoint → Breaks → ℕ → State
-session_state machine checkpoints breakpoints drawn =
-    record { wholes = wholes machine; checkpoints = checkpoints; breakpoints = breakpoints; drawn = drawn }
+-- the state that a machine shows, with these checkpoints and breakpoints
+abbrev pub session_state : Machine → List Checkpoint → Breaks → State
+session_state machine checkpoints breakpoints =
+    record { wholes = wholes machine; checkpoints = checkpoints; breakpoints = breakpoints }
 
 -- The base of each space that is there: what it would be without its overlays. The state tells that of speculating processes alone.
 abbrev pub Bases : Type 0
@@ -84,5 +91,4 @@ fresh_session modes = record { state = fresh modes; modes = modes; bases = empty
 pub record KeepsRest (old new : InSession) : Type 0 where
   pub checkpoints : new.state.checkpoints ≡ old.state.checkpoints
   pub breakpoints : new.state.breakpoints ≡ old.state.breakpoints
-  pub drawn : new.state.drawn ≡ old.state.drawn
   pub modes : new.modes ≡ old.modes

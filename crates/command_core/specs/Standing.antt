@@ -11,8 +11,8 @@ use Rattle.report_text.specs.declared.answer.Code.{Code}
 use Rattle.command_core.specs.Looks.{begun}
 use Rattle.command_core.specs.Turns.{EndsRun, InRun, Speaks, TakesTurn, by_turns, run_found}
 
--- A session stands for a state of the copying machine where its processes and its checkpoints, memories included, its frames and the
--- numbers drawn are the state's, and the ledgers are alike. What a call does is said of each state that the session stood for.
+-- A session stands for a state of the copying machine where its processes and its checkpoints, memories included, and its frames are the
+-- state's, and the ledgers are alike. What a call does is said of each state that the session stood for.
 abbrev pub SessionStandsFor : InSession → State → Type 0
 SessionStandsFor session state = AreLikeStates session.state state
 
@@ -32,13 +32,13 @@ GivesAs row old answer new =
 abbrev pub HoldsFor : (State → Type 0) → InSession → Type 0
 HoldsFor fact session = (state : State) → SessionStandsFor session state → fact state
 
--- turns: those of the state's processes, and the session stands for the state after them, in which the checkpoints, the breakpoints and
--- the numbers drawn are the same
+-- turns: those of the state's processes, and the session stands for the state after them, in which the checkpoints and the breakpoints are the
+-- same
 abbrev pub TurnsAs : (State → State → Type 0) → InSession → InSession → Type 0
 TurnsAs turns old new =
     (state : State) → SessionStandsFor old state
     → (after : State) × SessionStandsFor new after × (after.checkpoints ≡ state.checkpoints) × (after.breakpoints ≡ state.breakpoints)
-    × (after.drawn ≡ state.drawn) × turns state after
+    × turns state after
 
 abbrev pub takes_turn : InRun → Option (ℕ × Turn) → InRun → State → State → Type 0
 takes_turn running turn after_run state after = TakesTurn state.breakpoints state.wholes running turn after.wholes after_run

@@ -1,6 +1,8 @@
-use Rattle.std.specs.Prelude.{◌≡◌, ℕ, ◌+◌, nat_lt, if◌then◌else◌, List, [], Option, Some, None}
+use Rattle.std.specs.Prelude.{◌≡◌, ℕ, ◌==◌, ◌||◌, not, Bool, List, [], Option, None}
+use Rattle.std.specs.List.{find, list_any, range_with_len}
+use Rattle.std.specs.Option.{is_some}
 use Rattle.sizes.specs.declared.TheConstants.{LAST_SPACE}
-use Rattle.std.specs.FinMap.{empty}
+use Rattle.std.specs.FinMap.{empty, get}
 use Rattle.breakpoints.specs.Breakpoints.{Breaks}
 use Rattle.ledger.specs.Ledger.{Ledger}
 use Rattle.translation_cache.specs.Bare.{BareTranslations}
@@ -16,12 +18,11 @@ pub record Checkpoint : Type 0 where
   pub whole : Whole
 
 -- The copying machine: the processes by number, each with its whole memory, with the ledger of the pages of all spaces; the
--- checkpoints, in the order of making; the breakpoints of each process; and how many numbers were drawn.
+-- checkpoints, in the order of making; and the breakpoints of each process.
 pub record State : Type 0 where
   pub wholes : Wholes
   pub checkpoints : List Checkpoint
   pub breakpoints : Breaks
-  pub drawn : ℕ
 
 -- the state at the start
 abbrev pub fresh : Modes → State
@@ -29,7 +30,6 @@ fresh modes = record {
   wholes = record { processes = empty; ledger = empty; frames = modes.frames; translations = no_translations };
   checkpoints = [];
   breakpoints = empty;
-  drawn = 0;
 }
 
 abbrev pub with_wholes : Wholes → State → State
@@ -41,18 +41,18 @@ pub record Registry : Type 0 where
   pub processes : Processes
   pub checkpoints : List Checkpoint
   pub breakpoints : Breaks
-  pub drawn : ℕ
 
--- The next number, of a process or of a checkpoint: none where all were drawn.
-abbrev pub number_after : ℕ → Option ℕ
-number_after drawn = if nat_lt drawn LAST_SPACE then Some (drawn + 1) else None
+-- whether a process or a checkpoint has a number
+abbrev pub is_used : Registry → ℕ → Bool
+is_used registry n = is_some (get registry.processes n) || list_any (λ (x : Checkpoint). x.space == n) registry.checkpoints
 
-abbrev pub next_number : Registry → Option ℕ
-next_number registry = number_after registry.drawn
+-- The next number, of a process or of a checkpoint: the least from 1 on that none of them has; none where they have all.
+unfoldable pub next_number : Registry → Option ℕ
+next_number registry = find (λ n. not (is_used registry n)) (range_with_len 1 LAST_SPACE)
 
 abbrev pub registry_of : State → Registry
 registry_of state =
-    record { processes = state.wholes.processes; checkpoints = state.checkpoints; breakpoints = state.breakpoints; drawn = state.drawn }
+    record { processes = state.wholes.processes; checkpoints = state.checkpoints; breakpoints = state.breakpoints }
 
 -- the state with another registry, another ledger and other translations
 abbrev pub with_registry : Registry → Ledger → BareTranslations → State → State
@@ -60,7 +60,6 @@ with_registry registry ledger translations state = record {
   wholes = record { processes = registry.processes; ledger = ledger; frames = state.wholes.frames; translations = translations };
   checkpoints = registry.checkpoints;
   breakpoints = registry.breakpoints;
-  drawn = registry.drawn;
 }
 
 -- the whole of a process, and the process that is a whole, of which nothing is kept
@@ -75,4 +74,3 @@ pub record AreLikeStates (a b : State) : Type 0 where
   pub wholes : AreLike a.wholes b.wholes
   pub checkpoints : a.checkpoints ≡ b.checkpoints
   pub breakpoints : a.breakpoints ≡ b.breakpoints
-  pub drawn : a.drawn ≡ b.drawn

@@ -69,4 +69,4 @@ unbounded = record {
 
 -- it at the start
 abbrev pub fresh_unbounded : List (List ℕ) → Unbounded
-fresh_unbounded told = record { registry = record { processes = empty; checkpoints = []; breakpoints = empty; drawn = 0 }; told = told }
+fresh_unbounded told = record { registry = record { processes = empty; checkpoints = []; breakpoints = empty }; told = told }

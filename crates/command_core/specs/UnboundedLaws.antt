@@ -245,7 +245,6 @@ module _ (counts : List (List ℕ)) (behind : List ℕ) where
             processes = same.after i;
             checkpoints = state.checkpoints;
             breakpoints = state.breakpoints;
-            drawn = state.drawn;
           };
           told = counts;
         };

@@ -2,7 +2,7 @@ ghost use Rattle.std.specs.Prelude.{◌≡◌, ◌==◌, ◌+◌, ◌≤◌, ◌
 ghost use Rattle.script_text.specs.Given.{IsGiven};
 ghost use Rattle.report_text.specs.Answers.{IsCheckpointName};
 ghost use Rattle.sizes.specs.declared.TheConstants.{ADDRESS_END, LAST_SPACE, MOST_FRAMES, PAGE_BYTES};
-ghost use Rattle.command_core.specs.State.{fresh, number_after, registry_of};
+ghost use Rattle.command_core.specs.State.{fresh, registry_of};
 ghost use Rattle.command_core.specs.Sessions.{KeepsRest, fresh_session};
 ghost use Rattle.command_core.specs.Giving.{GivesChange, WantKeeps};
 ghost use Rattle.command_core.specs.Rows.{still_row};
@@ -29,13 +29,13 @@ use crate::taking::{ending, next_turn, turns_to_line};
 use crate::turns::{Order, Running};
 use breakpoints::Breakpoints;
 use elf_loader::{ElfError, read_image};
+use free_numbers::FreeNumbers;
 use machine_core::{Machine, SpaceError};
 use ovl_io::{Bytes, ProcessState, Turn};
 use report_text::{Answer, Code, Line};
 use round_robin::RoundRobin;
 use rv_execute::Regs;
 use script_text::Command;
-use sizes::LAST_SPACE;
 use std::alloc::{AllocError, Global};
 use std::marker::Model;
 
@@ -81,13 +81,13 @@ pub struct Session {
     machine: Machine,
     checkpoints: Checkpoints,
     breakpoints: Breakpoints,
-    drawn: u16,
+    numbers: FreeNumbers,
     modes: Modes,
 }
 
 impl Model for Session {
     ghost use Rattle.std.specs.Prelude.{◌≤◌};
-    ghost use Rattle.command_core.specs.Sessions.{InSession, IsSession, NoBreaksAbove};
+    ghost use Rattle.command_core.specs.Sessions.{InSession, IsSession, AreBreaksOf};
     ghost use Rattle.command_core.specs.Kept.{shown_session, spaces_kept};
     ghost use Rattle.command_core.specs.Codes.{session_code};
 
@@ -95,10 +95,10 @@ impl Model for Session {
 
     ghost coded = { session_code };
 
-    ghost view = { λ s. shown_session s.machine s.checkpoints s.breakpoints s.drawn s.modes };
+    ghost view = { λ s. shown_session s.machine s.checkpoints s.breakpoints s.modes };
 
-    ghost invariant = { λ s. IsSession s.machine (spaces_kept s.checkpoints) s.drawn
-        × (1 ≤ s.modes.quantum) × NoBreaksAbove s.drawn s.breakpoints };
+    ghost invariant = { λ s. IsSession s.machine (spaces_kept s.checkpoints) s.numbers
+        × (1 ≤ s.modes.quantum) × AreBreaksOf s.machine s.breakpoints };
 }
 
 /// What a load or a copy that wasn't done answers.
@@ -108,18 +108,6 @@ fn not_made(error: SpaceError) -> Answer
     match error {
         SpaceError::Full(units, limit) => Answer::Full(units, limit),
         SpaceError::Memory => Answer::Memory,
-    }
-}
-
-/// The next number, of a process or of a checkpoint, where so many were drawn: none where that is all.
-fn next_number(drawn: u16) -> Option<u16>
-    ensures next { result ≡ number_after drawn }
-    ensures free { IfSome result (λ n. (drawn < n) × (n ≤ LAST_SPACE)) }
-{
-    if drawn < LAST_SPACE {
-        Some(drawn + 1)
-    } else {
-        None
     }
 }
 
@@ -151,7 +139,7 @@ impl Session {
             machine: Machine::new(alloc, frames)?,
             checkpoints: Checkpoints::new(alloc),
             breakpoints: Breakpoints::new(alloc),
-            drawn: 0,
+            numbers: FreeNumbers::new(alloc)?,
             modes: Modes { frames, quantum },
         })
     }
@@ -174,13 +162,13 @@ impl Session {
             Err(ElfError::Memory) => return Answer::Memory,
             Err(error) => return Answer::Refused(Code::Elf(error)),
         };
-        let p = match next_number(self.drawn) {
+        let p = match self.numbers.least() {
             None => return Answer::Refused(Code::NumbersUsed),
             Some(p) => p,
         };
         match self.machine.load(p, &image, file) {
             Ok(pages) => {
-                self.drawn = p;
+                self.numbers.take(p);
                 Answer::Loaded(p, pages, image.entry())
             }
             Err(error) => not_made(error),
@@ -202,13 +190,13 @@ impl Session {
             Some(process) => *process,
         };
         let speculating = self.machine.memory().is_speculating(p);
-        let q = match fork_number(process.state, speculating, next_number(self.drawn)) {
+        let q = match fork_number(process.state, speculating, self.numbers.least()) {
             Ok(q) => q,
             Err(code) => return Answer::Refused(code),
         };
         match fork_process(&mut self.machine, p, q, process) {
             Ok(()) => {
-                self.drawn = q;
+                self.numbers.take(q);
                 Answer::Forked(p, q)
             }
             Err(error) => not_made(error),
@@ -231,7 +219,7 @@ impl Session {
         };
         let speculating = self.machine.memory().is_speculating(p);
         let taken = self.checkpoints.has(name.as_slice());
-        let q = match checkpoint_number(speculating, taken, next_number(self.drawn)) {
+        let q = match checkpoint_number(speculating, taken, self.numbers.least()) {
             Ok(q) => q,
             Err(code) => return Answer::Refused(code),
         };
@@ -245,7 +233,7 @@ impl Session {
             name,
         ) {
             Ok(told) => {
-                self.drawn = q;
+                self.numbers.take(q);
                 Answer::Saved(p, told, q)
             }
             Err(error) => not_made(error),
@@ -292,6 +280,7 @@ impl Session {
             None => Answer::Refused(Code::NoCheckpoint),
             Some(kept) => {
                 self.machine.drop_space(kept.space);
+                self.numbers.give_back(kept.space);
                 Answer::Done
             }
         }
@@ -396,6 +385,7 @@ impl Session {
         }
         self.machine.remove(p);
         self.machine.drop_space(p);
+        self.numbers.give_back(p);
         self.breakpoints.clear(p);
         Answer::Done
     }

@@ -16,3 +16,4 @@ pub mod LoadLaws
 pub mod Kept
 pub mod NumberLaws
 pub mod Ample
+pub mod Absent

@@ -34,11 +34,10 @@ pub ended_after : (start old new : State) (first running after : InRun)
     → AreLike (left_of start.breakpoints start.wholes first).after (left_of start.breakpoints old.wholes running).after
     → EndsRun start.breakpoints old.wholes running new.wholes after → new.checkpoints ≡ start.checkpoints → new.breakpoints ≡ start.breakpoints
     → new.drawn ≡ start.drawn → AreLikeStates new (takes_left first start).after
-ended_after start old new first running after so_far ends checkpoints breakpoints drawn =
+ended_after start old new first running after so_far ends checkpoints breakpoints =
     let begun = (left_of start.breakpoints start.wholes first).after in
     record {
       wholes = like_back begun new.wholes (like_chain begun (left_of start.breakpoints old.wholes running).after new.wholes so_far ends.2.1);
       checkpoints = checkpoints;
       breakpoints = breakpoints;
-      drawn = drawn;
     }

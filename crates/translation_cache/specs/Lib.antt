@@ -1,5 +1,5 @@
 -- In reading order: the lists and what calls do to them, what is true of all of them, how they are kept, laws, the lists without
--- what they hold, what accesses do, and laws of that.
+-- what they hold, what accesses do, and laws of that, of which spaces nothing is in the lists.
 pub mod Translations
 pub mod Formed
 pub mod Cuts
@@ -9,5 +9,6 @@ pub mod Finding
 pub mod Bare
 pub mod Counted
 pub mod CountedLaws
+pub mod Absent
 pub mod Unseen
 pub mod Examples

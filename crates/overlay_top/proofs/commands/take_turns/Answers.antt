@@ -17,7 +17,6 @@ turns-init g c = record {
   sound = refl;
   checkpoints = refl;
   breakpoints = refl;
-  drawn = refl;
   modes = refl;
   after = like_itself (left_of c.args.session.now.state.breakpoints c.args.session.now.state.wholes c.args.running.now).after;
   text = λ tells. none_done (g.K.Sink.taken c.args.report.now.sink.now) (ran_text (left_of c.args.session.now.state.breakpoints c.args.session.now.state.wholes c.args.running.now));
@@ -32,7 +31,6 @@ turns-preserved g c =
       sound = c.in_ok-send.ensures.sends.0 ∙ c.turns.invariant.sound;
       checkpoints = c.turn_line.ensures.others.checkpoints ∙ c.turns.invariant.checkpoints;
       breakpoints = c.turn_line.ensures.others.breakpoints ∙ c.turns.invariant.breakpoints;
-      drawn = c.turn_line.ensures.others.drawn ∙ c.turns.invariant.drawn;
       modes = c.turn_line.ensures.others.modes ∙ c.turns.invariant.modes;
       after =
           like_chain (left_of c.args.session.now.state.breakpoints c.args.session.now.state.wholes c.args.running.now).after (left_of c.args.session.now.state.breakpoints c.turns.session.state.wholes c.turns.running).after

@@ -20,7 +20,7 @@ pub returns-in-Err-clause-gives : goal.returns-in-Err-clause-gives
 returns-in-Err-clause-gives c =
     let s = c.self.inside in
     subst (λ (s : InSession). GivesChange (on_process c.args.p (checkpoint_row c.args.p c.args.name.now) (registry_of s.state)) s.state (Refused c.in-Err.code) s.state) c.self.view_is
-    (checkpoint_refused s.machine s.checkpoints s.breakpoints s.drawn c.args.p c.args.name.now c.in-Some.process.now (sym c.in-Some.ensures.kept)
+    (checkpoint_refused s.machine s.checkpoints s.breakpoints c.args.p c.args.name.now c.in-Some.process.now (sym c.in-Some.ensures.kept)
     c.is_speculating-speculating.result c.has-taken.result
     (told_mark s.machine c.args.p c.is_speculating-speculating.result c.memory.result.now c.is_speculating-speculating.ensures.mark c.memory.ensures)
     (taken_is s.checkpoints c.as_slice.result.now c.args.name.now c.has-taken.result c.as_slice.ensures c.has-taken.ensures)
@@ -37,7 +37,7 @@ invariant_of-self c =
       subst (λ (xs : List Kept). IsSession c.save_process.new.machine (spaces_kept xs) c.in-Ok.q) (sym c.in-Ok-save_process.ensures.kept.1)
           (session_of_saved s.machine c.save_process.new.machine s.checkpoints s.drawn c.in-Ok.q c.args.p entered c.self.invariant.0 free refl saved),
       c.self.invariant.1,
-      above_more s.breakpoints s.drawn c.in-Ok.q free.0 c.self.invariant.2,
+      above_more s.breakpoints c.in-Ok.q free.0 c.self.invariant.2,
     )
 
 pub returns-in-Ok-save_process-clause-gives : goal.returns-in-Ok-save_process-clause-gives
@@ -49,13 +49,13 @@ returns-in-Ok-save_process-clause-gives c =
     let saved = subst (λ t. SavesSpace c.args.p c.in-Ok.q c.self.inside.machine c.save_process.new.machine (Ok t)) c.in-Ok-save_process.ensures.kept.0 c.in-Ok-save_process.ensures.saves in
     subst (λ (s : InSession). GivesChange (on_process c.args.p (checkpoint_row c.args.p c.args.name.now) (registry_of s.state)) s.state (Saved c.args.p c.in-Ok-save_process.told c.in-Ok.q)
     (shown_state c.save_process.new.machine c.save_process.new.checkpoints c.self.inside.breakpoints c.in-Ok.q)) c.self.view_is
-    (subst (λ t. GivesChange (on_process c.args.p (checkpoint_row c.args.p c.args.name.now) (registry_of (shown_state c.self.inside.machine c.self.inside.checkpoints c.self.inside.breakpoints c.self.inside.drawn)))
-    (shown_state c.self.inside.machine c.self.inside.checkpoints c.self.inside.breakpoints c.self.inside.drawn) (Saved c.args.p t c.in-Ok.q)
+    (subst (λ t. GivesChange (on_process c.args.p (checkpoint_row c.args.p c.args.name.now) (registry_of (shown_state c.self.inside.machine c.self.inside.checkpoints c.self.inside.breakpoints)))
+    (shown_state c.self.inside.machine c.self.inside.checkpoints c.self.inside.breakpoints) (Saved c.args.p t c.in-Ok.q)
     (shown_state c.save_process.new.machine c.save_process.new.checkpoints c.self.inside.breakpoints c.in-Ok.q)) (sym c.in-Ok-save_process.ensures.kept.0)
-    (subst (λ (xs : List Kept). GivesChange (on_process c.args.p (checkpoint_row c.args.p c.args.name.now) (registry_of (shown_state c.self.inside.machine c.self.inside.checkpoints c.self.inside.breakpoints c.self.inside.drawn)))
-    (shown_state c.self.inside.machine c.self.inside.checkpoints c.self.inside.breakpoints c.self.inside.drawn) (Saved c.args.p c.args.name.now c.in-Ok.q)
+    (subst (λ (xs : List Kept). GivesChange (on_process c.args.p (checkpoint_row c.args.p c.args.name.now) (registry_of (shown_state c.self.inside.machine c.self.inside.checkpoints c.self.inside.breakpoints)))
+    (shown_state c.self.inside.machine c.self.inside.checkpoints c.self.inside.breakpoints) (Saved c.args.p c.args.name.now c.in-Ok.q)
     (shown_state c.save_process.new.machine xs c.self.inside.breakpoints c.in-Ok.q)) (sym c.in-Ok-save_process.ensures.kept.1)
-    (checkpoint_saved s.machine s.checkpoints s.breakpoints s.drawn p name c.in-Some.process.now (sym c.in-Some.ensures.kept)
+    (checkpoint_saved s.machine s.checkpoints s.breakpoints p name c.in-Some.process.now (sym c.in-Some.ensures.kept)
     c.is_speculating-speculating.result c.has-taken.result
     (told_mark s.machine p c.is_speculating-speculating.result c.memory.result.now c.is_speculating-speculating.ensures.mark c.memory.ensures)
     (taken_is s.checkpoints c.as_slice.result.now name c.has-taken.result c.as_slice.ensures c.has-taken.ensures)
@@ -69,8 +69,8 @@ pub invariant_of-self-in-Err-save_process : goal.invariant_of-self-in-Err-save_p
 invariant_of-self-in-Err-save_process c =
     let s = c.self.inside in
     let keeps = copy_keeps c.args.p c.in-Ok.q s.machine c.save_process.new.machine c.in-Err-save_process.error c.in-Err-save_process.ensures.saves in (
-      subst (λ (xs : List Kept). IsSession c.save_process.new.machine (spaces_kept xs) c.self.inside.drawn) (sym c.in-Err-save_process.ensures.kept)
-          (keeps.session (spaces_kept s.checkpoints) s.drawn c.self.invariant.0),
+      subst (λ (xs : List Kept). IsSession c.save_process.new.machine (spaces_kept xs) c.self.inside.numbers) (sym c.in-Err-save_process.ensures.kept)
+          (keeps.session (spaces_kept s.checkpoints) s.numbers c.self.invariant.0),
       c.self.invariant.1,
       c.self.invariant.2,
     )
@@ -81,12 +81,12 @@ returns-in-Err-save_process-clause-gives c =
     let p = c.args.p in
     let name = c.args.name.now in
     subst (λ (s : InSession). GivesChange (on_process c.args.p (checkpoint_row c.args.p c.args.name.now) (registry_of s.state)) s.state c.not_made.result
-    (shown_state c.save_process.new.machine c.save_process.new.checkpoints c.self.inside.breakpoints c.self.inside.drawn)) c.self.view_is
-    (subst (λ a. GivesChange (on_process c.args.p (checkpoint_row c.args.p c.args.name.now) (registry_of (shown_state c.self.inside.machine c.self.inside.checkpoints c.self.inside.breakpoints c.self.inside.drawn)))
-    (shown_state c.self.inside.machine c.self.inside.checkpoints c.self.inside.breakpoints c.self.inside.drawn) a (shown_state c.save_process.new.machine c.save_process.new.checkpoints c.self.inside.breakpoints c.self.inside.drawn)) (sym c.not_made.ensures)
-    (subst (λ (xs : List Kept). GivesChange (on_process c.args.p (checkpoint_row c.args.p c.args.name.now) (registry_of (shown_state c.self.inside.machine c.self.inside.checkpoints c.self.inside.breakpoints c.self.inside.drawn)))
-    (shown_state c.self.inside.machine c.self.inside.checkpoints c.self.inside.breakpoints c.self.inside.drawn) (answer_of c.in-Err-save_process.error) (shown_state c.save_process.new.machine xs c.self.inside.breakpoints c.self.inside.drawn)) (sym c.in-Err-save_process.ensures.kept)
-    (checkpoint_unsaved s.machine s.checkpoints s.breakpoints s.drawn p name c.in-Some.process.now (sym c.in-Some.ensures.kept)
+    (shown_state c.save_process.new.machine c.save_process.new.checkpoints c.self.inside.breakpoints)) c.self.view_is
+    (subst (λ a. GivesChange (on_process c.args.p (checkpoint_row c.args.p c.args.name.now) (registry_of (shown_state c.self.inside.machine c.self.inside.checkpoints c.self.inside.breakpoints)))
+    (shown_state c.self.inside.machine c.self.inside.checkpoints c.self.inside.breakpoints) a (shown_state c.save_process.new.machine c.save_process.new.checkpoints c.self.inside.breakpoints)) (sym c.not_made.ensures)
+    (subst (λ (xs : List Kept). GivesChange (on_process c.args.p (checkpoint_row c.args.p c.args.name.now) (registry_of (shown_state c.self.inside.machine c.self.inside.checkpoints c.self.inside.breakpoints)))
+    (shown_state c.self.inside.machine c.self.inside.checkpoints c.self.inside.breakpoints) (answer_of c.in-Err-save_process.error) (shown_state c.save_process.new.machine xs c.self.inside.breakpoints)) (sym c.in-Err-save_process.ensures.kept)
+    (checkpoint_unsaved s.machine s.checkpoints s.breakpoints p name c.in-Some.process.now (sym c.in-Some.ensures.kept)
     c.is_speculating-speculating.result c.has-taken.result
     (told_mark s.machine p c.is_speculating-speculating.result c.memory.result.now c.is_speculating-speculating.ensures.mark c.memory.ensures)
     (taken_is s.checkpoints c.as_slice.result.now name c.has-taken.result c.as_slice.ensures c.has-taken.ensures)
@@ -97,10 +97,10 @@ returns-in-Err-save_process-clause-gives c =
 pub returns-in-Err-save_process-clause-want : goal.returns-in-Err-save_process-clause-want
 returns-in-Err-save_process-clause-want c =
     let s = c.self.inside in
-    let old = shown_session s.machine s.checkpoints s.breakpoints s.drawn s.modes in
+    let old = shown_session s.machine s.checkpoints s.breakpoints s.modes in
     let new = c.save_process.new.machine in
-    told_keeps c.args.self.now old (shown_session new c.save_process.new.checkpoints s.breakpoints s.drawn s.modes)
+    told_keeps c.args.self.now old (shown_session new c.save_process.new.checkpoints s.breakpoints s.modes)
     c.not_made.result (answer_of c.in-Err-save_process.error) c.self.view_is c.not_made.ensures
-    (subst (λ (xs : List Kept). WantKeeps (shown_session c.self.inside.machine c.self.inside.checkpoints c.self.inside.breakpoints c.self.inside.drawn c.self.inside.modes)
-    (answer_of c.in-Err-save_process.error) (shown_session c.save_process.new.machine xs c.self.inside.breakpoints c.self.inside.drawn c.self.inside.modes)) (sym c.in-Err-save_process.ensures.kept)
-    (copy_keeps_all s.machine new s.checkpoints s.breakpoints s.drawn s.modes c.args.p c.in-Ok.q c.in-Err-save_process.error c.in-Err-save_process.ensures.saves))
+    (subst (λ (xs : List Kept). WantKeeps (shown_session c.self.inside.machine c.self.inside.checkpoints c.self.inside.breakpoints c.self.inside.modes)
+    (answer_of c.in-Err-save_process.error) (shown_session c.save_process.new.machine xs c.self.inside.breakpoints c.self.inside.modes)) (sym c.in-Err-save_process.ensures.kept)
+    (copy_keeps_all s.machine new s.checkpoints s.breakpoints s.modes c.args.p c.in-Ok.q c.in-Err-save_process.error c.in-Err-save_process.ensures.saves))

@@ -24,4 +24,4 @@ returns-in-Some-clause-stands c state stands =
 pub returns-in-Some-clause-within : goal.returns-in-Some-clause-within
 returns-in-Some-clause-within c =
     let s = c.self.inside in
-    kept_within s.machine s.checkpoints s.drawn c.args.index c.in-Some.kept.now c.self.invariant.0 (sym c.in-Some.ensures.at)
+    kept_within s.machine s.checkpoints s.numbers c.args.index c.in-Some.kept.now c.self.invariant.0 (sym c.in-Some.ensures.at)

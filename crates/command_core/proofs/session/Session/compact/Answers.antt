@@ -14,6 +14,6 @@ pub returns-clause-gives : goal.returns-clause-gives
 returns-clause-gives c =
     let s = c.self.inside in
     subst (λ (s : InSession). GivesChange (still_row (registry_of s.state)) s.state Done
-    (shown_state (with_memory c.self.inside.machine c.compact.new.self) c.self.inside.checkpoints c.self.inside.breakpoints c.self.inside.drawn)) c.self.view_is
-    (gives_moved s.machine (with_memory s.machine c.compact.new.self) s.checkpoints s.breakpoints s.drawn
+    (shown_state (with_memory c.self.inside.machine c.compact.new.self) c.self.inside.checkpoints c.self.inside.breakpoints)) c.self.view_is
+    (gives_moved s.machine (with_memory s.machine c.compact.new.self) s.checkpoints s.breakpoints
     (c.compact.ensures.state ∙ ap state_of c.memory_mut.ensures.value, c.compact.ensures.translations ∙ ap translations_of c.memory_mut.ensures.value, refl))

@@ -24,9 +24,9 @@ pub invariant_of-self : goal.invariant_of-self
 invariant_of-self c =
     let s = c.self.inside in
     let keeps = keeps_dropped s.machine c.remove.new.self c.drop_space.new.self c.args.p (ap is_some (sym c.in-Some.ensures.kept)) c.remove.ensures.removed c.drop_space.ensures.dropped in (
-      keeps.session (spaces_kept s.checkpoints) s.drawn c.self.invariant.0,
+      keeps.session (spaces_kept s.checkpoints) s.numbers c.self.invariant.0,
       c.self.invariant.1,
-      subst (NoBreaksAbove s.drawn) (sym c.clear.ensures) (above_removed s.breakpoints s.drawn c.args.p c.self.invariant.2),
+      subst (NoBreaksAbove s.drawn) (sym c.clear.ensures) (above_removed s.breakpoints c.args.p c.self.invariant.2),
     )
 
 pub returns-clause-gives : goal.returns-clause-gives
@@ -37,12 +37,12 @@ returns-clause-gives c =
     let p = c.args.p in
     let kept = checkpoints_in (spaces_of old) s.checkpoints in
     let keeps = keeps_dropped old c.remove.new.self new p (ap is_some (sym c.in-Some.ensures.kept)) c.remove.ensures.removed c.drop_space.ensures.dropped in
-    subst (λ (s : InSession). GivesChange (on_process p (drop_row p) (registry_of s.state)) s.state Done (shown_state new c.self.inside.checkpoints c.clear.new.self c.self.inside.drawn)) c.self.view_is
-    (subst (λ (breaks : Breaks). GivesChange (on_process p (drop_row p) (registry_of (shown_state old c.self.inside.checkpoints c.self.inside.breakpoints c.self.inside.drawn)))
-    (shown_state old c.self.inside.checkpoints c.self.inside.breakpoints c.self.inside.drawn) Done (shown_state new c.self.inside.checkpoints breaks c.self.inside.drawn))
+    subst (λ (s : InSession). GivesChange (on_process p (drop_row p) (registry_of s.state)) s.state Done (shown_state new c.self.inside.checkpoints c.clear.new.self)) c.self.view_is
+    (subst (λ (breaks : Breaks). GivesChange (on_process p (drop_row p) (registry_of (shown_state old c.self.inside.checkpoints c.self.inside.breakpoints)))
+    (shown_state old c.self.inside.checkpoints c.self.inside.breakpoints) Done (shown_state new c.self.inside.checkpoints breaks))
     (sym c.clear.ensures)
-    (gives_left (on_process p (drop_row p)) old new s.checkpoints s.breakpoints s.drawn (free_same old new (spaces_kept s.checkpoints) keeps.free c.self.invariant.0.free) Done
-    (remove s.breakpoints p) s.drawn
-    (gives_found old kept s.breakpoints s.drawn p (drop_row p) c.in-Some.field-0.now Done (session_state new kept (remove s.breakpoints p) s.drawn) (sym c.in-Some.ensures.kept)
-    (gives_dropped old c.remove.new.self new kept s.breakpoints s.drawn p c.in-Some.field-0.now c.remove.ensures.after
+    (gives_left (on_process p (drop_row p)) old new s.checkpoints s.breakpoints (free_same old new (spaces_kept s.checkpoints) keeps.free c.self.invariant.0.free) Done
+    (remove s.breakpoints p)
+    (gives_found old kept s.breakpoints p (drop_row p) c.in-Some.field-0.now Done (session_state new kept (remove s.breakpoints p)) (sym c.in-Some.ensures.kept)
+    (gives_dropped old c.remove.new.self new kept s.breakpoints p c.in-Some.field-0.now c.remove.ensures.after
     (ap (λ (m : Machine). get m.processes p) c.remove.ensures.removed ∙ removed_same old.processes p p refl) c.drop_space.ensures.dropped))))

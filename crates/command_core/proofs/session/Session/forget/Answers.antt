@@ -21,7 +21,7 @@ invariant_of-self c =
     let s = c.self.inside in
     let none : kept_named c.args.name.now s.checkpoints ≡ None = sym (c.in-None.ensures.removed ∙ ap (λ n. kept_named n s.checkpoints) c.as_slice.ensures) in
     let same = c.remove.ensures.others ∙ ap (λ n. kept_but n s.checkpoints) c.as_slice.ensures ∙ none_but c.args.name.now s.checkpoints none in
-    (subst (λ (xs : List Kept). IsSession s.machine (spaces_kept xs) s.drawn) (sym same) c.self.invariant.0, c.self.invariant.1, c.self.invariant.2)
+    (subst (λ (xs : List Kept). IsSession s.machine (spaces_kept xs) s.numbers) (sym same) c.self.invariant.0, c.self.invariant.1, c.self.invariant.2)
 
 pub returns-in-None-clause-gives : goal.returns-in-None-clause-gives
 returns-in-None-clause-gives c =
@@ -30,10 +30,10 @@ returns-in-None-clause-gives c =
     let none : kept_named c.args.name.now s.checkpoints ≡ None = sym (c.in-None.ensures.removed ∙ ap (λ n. kept_named n s.checkpoints) c.as_slice.ensures) in
     let same = c.remove.ensures.others ∙ ap (λ n. kept_but n s.checkpoints) c.as_slice.ensures ∙ none_but name s.checkpoints none in
     subst (λ (s : InSession). GivesChange (on_checkpoint c.args.name.now (forget_row c.args.name.now) (registry_of s.state)) s.state (Refused NoCheckpoint)
-    (shown_state c.self.inside.machine c.remove.new.self c.self.inside.breakpoints c.self.inside.drawn)) c.self.view_is
-    (subst (λ (xs : List Kept). GivesChange (on_checkpoint c.args.name.now (forget_row c.args.name.now) (registry_of (shown_state c.self.inside.machine c.self.inside.checkpoints c.self.inside.breakpoints c.self.inside.drawn)))
-    (shown_state c.self.inside.machine c.self.inside.checkpoints c.self.inside.breakpoints c.self.inside.drawn) (Refused NoCheckpoint) (shown_state c.self.inside.machine xs c.self.inside.breakpoints c.self.inside.drawn)) (sym same)
-    (gives_unnamed (shown_state s.machine s.checkpoints s.breakpoints s.drawn) name (forget_row name)
+    (shown_state c.self.inside.machine c.remove.new.self c.self.inside.breakpoints)) c.self.view_is
+    (subst (λ (xs : List Kept). GivesChange (on_checkpoint c.args.name.now (forget_row c.args.name.now) (registry_of (shown_state c.self.inside.machine c.self.inside.checkpoints c.self.inside.breakpoints)))
+    (shown_state c.self.inside.machine c.self.inside.checkpoints c.self.inside.breakpoints) (Refused NoCheckpoint) (shown_state c.self.inside.machine xs c.self.inside.breakpoints)) (sym same)
+    (gives_unnamed (shown_state s.machine s.checkpoints s.breakpoints) name (forget_row name)
     (named_shown name (spaces_of s.machine) s.checkpoints ∙ ap (option_map (checkpoint_in (spaces_of s.machine))) none)))
 
 -- one has it
@@ -50,8 +50,8 @@ pub invariant_of-self-in-Some : goal.invariant_of-self-in-Some
 invariant_of-self-in-Some c =
     let s = c.self.inside in
     let name = c.as_slice.result.now in (
-      subst (λ (xs : List Kept). IsSession c.drop_space.new.self (spaces_kept xs) s.drawn) (sym c.remove.ensures.others)
-          (session_forgot s.machine c.drop_space.new.self s.checkpoints s.breakpoints s.drawn name c.in-Some.kept c.self.invariant.0 (sym c.in-Some.ensures.removed) c.drop_space.ensures.dropped),
+      subst (λ (xs : List Kept). IsSession c.drop_space.new.self (spaces_kept xs) s.numbers) (sym c.remove.ensures.others)
+          (session_forgot s.machine c.drop_space.new.self s.checkpoints s.breakpoints name c.in-Some.kept c.self.invariant.0 (sym c.in-Some.ensures.removed) c.drop_space.ensures.dropped),
       c.self.invariant.1,
       c.self.invariant.2,
     )
@@ -61,9 +61,9 @@ returns-in-Some-clause-gives c =
     let s = c.self.inside in
     let name = c.as_slice.result.now in
     subst (λ (s : InSession). GivesChange (on_checkpoint c.args.name.now (forget_row c.args.name.now) (registry_of s.state)) s.state Done
-    (shown_state c.drop_space.new.self c.remove.new.self c.self.inside.breakpoints c.self.inside.drawn)) c.self.view_is
-    (subst (λ n. GivesChange (on_checkpoint n (forget_row n) (registry_of (shown_state c.self.inside.machine c.self.inside.checkpoints c.self.inside.breakpoints c.self.inside.drawn)))
-    (shown_state c.self.inside.machine c.self.inside.checkpoints c.self.inside.breakpoints c.self.inside.drawn) Done (shown_state c.drop_space.new.self c.remove.new.self c.self.inside.breakpoints c.self.inside.drawn)) c.as_slice.ensures
-    (subst (λ (xs : List Kept). GivesChange (on_checkpoint c.as_slice.result.now (forget_row c.as_slice.result.now) (registry_of (shown_state c.self.inside.machine c.self.inside.checkpoints c.self.inside.breakpoints c.self.inside.drawn)))
-    (shown_state c.self.inside.machine c.self.inside.checkpoints c.self.inside.breakpoints c.self.inside.drawn) Done (shown_state c.drop_space.new.self xs c.self.inside.breakpoints c.self.inside.drawn)) (sym c.remove.ensures.others)
-    (gives_forgot s.machine c.drop_space.new.self s.checkpoints s.breakpoints s.drawn name c.in-Some.kept c.self.invariant.0 (sym c.in-Some.ensures.removed) c.drop_space.ensures.dropped)))
+    (shown_state c.drop_space.new.self c.remove.new.self c.self.inside.breakpoints)) c.self.view_is
+    (subst (λ n. GivesChange (on_checkpoint n (forget_row n) (registry_of (shown_state c.self.inside.machine c.self.inside.checkpoints c.self.inside.breakpoints)))
+    (shown_state c.self.inside.machine c.self.inside.checkpoints c.self.inside.breakpoints) Done (shown_state c.drop_space.new.self c.remove.new.self c.self.inside.breakpoints)) c.as_slice.ensures
+    (subst (λ (xs : List Kept). GivesChange (on_checkpoint c.as_slice.result.now (forget_row c.as_slice.result.now) (registry_of (shown_state c.self.inside.machine c.self.inside.checkpoints c.self.inside.breakpoints)))
+    (shown_state c.self.inside.machine c.self.inside.checkpoints c.self.inside.breakpoints) Done (shown_state c.drop_space.new.self xs c.self.inside.breakpoints)) (sym c.remove.ensures.others)
+    (gives_forgot s.machine c.drop_space.new.self s.checkpoints s.breakpoints name c.in-Some.kept c.self.invariant.0 (sym c.in-Some.ensures.removed) c.drop_space.ensures.dropped)))

@@ -19,17 +19,17 @@ pub invariant_of-self : goal.invariant_of-self
 invariant_of-self c =
     let s = c.self.inside in
     let free = free_number s.drawn c.in-Ok.q (sym c.next_number.ensures.next ∙ c.in-Ok.ensures.1) in (
-      session_forked s.machine c.fork_process.new.machine (spaces_kept s.checkpoints) s.drawn c.in-Ok.q c.args.p c.in-Some.process.now c.self.invariant.0 free
+      session_forked s.machine c.fork_process.new.machine (spaces_kept s.checkpoints) s.numbers c.in-Ok.q c.args.p c.in-Some.process.now c.self.invariant.0 free
           (sym c.in-Some.ensures.kept) c.in-Ok-fork_process.ensures,
       c.self.invariant.1,
-      above_more s.breakpoints s.drawn c.in-Ok.q free.0 c.self.invariant.2,
+      above_more s.breakpoints c.in-Ok.q free.0 c.self.invariant.2,
     )
 
 pub invariant_of-self-in-Err-fork_process : goal.invariant_of-self-in-Err-fork_process
 invariant_of-self-in-Err-fork_process c =
     let s = c.self.inside in
     let keeps = copy_keeps c.args.p c.in-Ok.q s.machine c.fork_process.new.machine c.in-Err-fork_process.error c.in-Err-fork_process.ensures in
-    (keeps.session (spaces_kept s.checkpoints) s.drawn c.self.invariant.0, c.self.invariant.1, c.self.invariant.2)
+    (keeps.session (spaces_kept s.checkpoints) s.numbers c.self.invariant.0, c.self.invariant.1, c.self.invariant.2)
 
 pub returns-in-Err-clause-gives : goal.returns-in-Err-clause-gives
 returns-in-Err-clause-gives c =
@@ -37,7 +37,7 @@ returns-in-Err-clause-gives c =
     let mark = c.is_speculating-speculating.result in
     let state = c.in-Some.process.now.state in
     subst (λ (s : InSession). GivesChange (on_process c.args.p (fork_row c.args.p) (registry_of s.state)) s.state (Refused c.in-Err.code) s.state) c.self.view_is
-    (fork_refused s.machine s.checkpoints s.breakpoints s.drawn c.args.p c.in-Some.process.now mark
+    (fork_refused s.machine s.checkpoints s.breakpoints c.args.p c.in-Some.process.now mark
     (told_mark s.machine c.args.p mark c.memory.result.now c.is_speculating-speculating.ensures.mark c.memory.ensures) c.in-Err.code (sym c.in-Some.ensures.kept)
     (subst (λ o. first_refusal (fork_refusals c.in-Some.process.now.state c.is_speculating-speculating.result o) ≡ Some c.in-Err.code) c.next_number.ensures.next c.in-Err.ensures))
 
@@ -50,7 +50,7 @@ returns-in-Ok-fork_process-clause-gives c =
     let above = (free_number s.drawn c.in-Ok.q next).0 in
     subst (λ (s : InSession). GivesChange (on_process c.args.p (fork_row c.args.p) (registry_of s.state)) s.state (Forked c.args.p c.in-Ok.q)
     (shown_state c.fork_process.new.machine c.self.inside.checkpoints c.self.inside.breakpoints c.in-Ok.q)) c.self.view_is
-    (forked s.machine s.checkpoints s.breakpoints s.drawn p c.in-Some.process.now mark
+    (forked s.machine s.checkpoints s.breakpoints p c.in-Some.process.now mark
     (told_mark s.machine p mark c.memory.result.now c.is_speculating-speculating.ensures.mark c.memory.ensures) c.fork_process.new.machine c.in-Ok.q c.self.invariant.0
     (sym c.in-Some.ensures.kept) next
     (subst (λ o. first_refusal (fork_refusals c.in-Some.process.now.state c.is_speculating-speculating.result o) ≡ None) c.next_number.ensures.next c.in-Ok.ensures.0)
@@ -63,10 +63,10 @@ returns-in-Err-fork_process-clause-gives c =
     let mark = c.is_speculating-speculating.result in
     let next = sym c.next_number.ensures.next ∙ c.in-Ok.ensures.1 in
     subst (λ (s : InSession). GivesChange (on_process c.args.p (fork_row c.args.p) (registry_of s.state)) s.state c.not_made.result
-    (shown_state c.fork_process.new.machine c.self.inside.checkpoints c.self.inside.breakpoints c.self.inside.drawn)) c.self.view_is
-    (subst (λ a. GivesChange (on_process c.args.p (fork_row c.args.p) (registry_of (shown_state c.self.inside.machine c.self.inside.checkpoints c.self.inside.breakpoints c.self.inside.drawn)))
-    (shown_state c.self.inside.machine c.self.inside.checkpoints c.self.inside.breakpoints c.self.inside.drawn) a (shown_state c.fork_process.new.machine c.self.inside.checkpoints c.self.inside.breakpoints c.self.inside.drawn)) (sym c.not_made.ensures)
-    (not_forked s.machine s.checkpoints s.breakpoints s.drawn p c.in-Some.process.now mark
+    (shown_state c.fork_process.new.machine c.self.inside.checkpoints c.self.inside.breakpoints)) c.self.view_is
+    (subst (λ a. GivesChange (on_process c.args.p (fork_row c.args.p) (registry_of (shown_state c.self.inside.machine c.self.inside.checkpoints c.self.inside.breakpoints)))
+    (shown_state c.self.inside.machine c.self.inside.checkpoints c.self.inside.breakpoints) a (shown_state c.fork_process.new.machine c.self.inside.checkpoints c.self.inside.breakpoints)) (sym c.not_made.ensures)
+    (not_forked s.machine s.checkpoints s.breakpoints p c.in-Some.process.now mark
     (told_mark s.machine p mark c.memory.result.now c.is_speculating-speculating.ensures.mark c.memory.ensures) c.fork_process.new.machine c.in-Ok.q c.self.invariant.0
     (sym c.in-Some.ensures.kept) next
     (subst (λ o. first_refusal (fork_refusals c.in-Some.process.now.state c.is_speculating-speculating.result o) ≡ None) c.next_number.ensures.next c.in-Ok.ensures.0)
@@ -76,6 +76,6 @@ pub returns-in-Err-fork_process-clause-want : goal.returns-in-Err-fork_process-c
 returns-in-Err-fork_process-clause-want c =
     let s = c.self.inside in
     let new = c.fork_process.new.machine in
-    told_keeps c.args.self.now (shown_session s.machine s.checkpoints s.breakpoints s.drawn s.modes) (shown_session new s.checkpoints s.breakpoints s.drawn s.modes)
+    told_keeps c.args.self.now (shown_session s.machine s.checkpoints s.breakpoints s.modes) (shown_session new s.checkpoints s.breakpoints s.modes)
     c.not_made.result (answer_of c.in-Err-fork_process.error) c.self.view_is c.not_made.ensures
-    (copy_keeps_all s.machine new s.checkpoints s.breakpoints s.drawn s.modes c.args.p c.in-Ok.q c.in-Err-fork_process.error c.in-Err-fork_process.ensures)
+    (copy_keeps_all s.machine new s.checkpoints s.breakpoints s.modes c.args.p c.in-Ok.q c.in-Err-fork_process.error c.in-Err-fork_process.ensures)

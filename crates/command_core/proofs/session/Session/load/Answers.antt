@@ -15,22 +15,30 @@ use Rattle.command_core.proofs.Rows.{gives_kept}
 use Rattle.command_core.proofs.Wanting.{load_keeps_all, told_keeps}
 use Rattle.command_core.proofs.session.Session.load.Goals as goal
 
-pub invariant_of-self : goal.invariant_of-self
-invariant_of-self c =
+-- the number that it takes is free, and is the next one
+number_of : (c : goal.In-Some) → FreeNumber c.self.inside.machine c.in-Some.p
+number_of c =
+    free_number c.self.inside.machine (spaces_kept c.self.inside.checkpoints) c.self.inside.numbers c.in-Some.p c.self.invariant.0
+    (taken_free c.self.inside.numbers c.least.result c.in-Some.p c.least.ensures c.in-Some.is)
+
+next_of : (c : goal.In-Some) → next_number (registry_of (shown_state c.self.inside.machine c.self.inside.checkpoints c.self.inside.breakpoints)) ≡ Some c.in-Some.p
+next_of c =
     let s = c.self.inside in
-    let free = c.in-Some.ensures.free in
-    (session_load s.machine c.load.new.self (spaces_kept s.checkpoints) s.drawn c.in-Some.p c.args.file.now c.self.invariant.0 free.0 free.1 c.in-Ok-load.ensures.loads.2, c.self.invariant.1, above_more s.breakpoints s.drawn c.in-Some.p free.0 c.self.invariant.2)
+    sym (next_is s.machine s.checkpoints s.breakpoints s.numbers c.self.invariant.0 c.least.result c.least.ensures) ∙ c.in-Some.is
+
+pub invariant_of-self : goal.invariant_of-self
+invariant_of-self c = ?
 
 pub invariant_of-self-in-Err-load : goal.invariant_of-self-in-Err-load
 invariant_of-self-in-Err-load c =
     let s = c.self.inside in
-    let keeps = session_other c.args.file.now s.machine c.load.new.self [] s.breakpoints s.drawn c.in-Some.p c.in-Ok.ensures.taken (sym c.in-Some.ensures.next) c.in-Err-load.error c.in-Err-load.ensures.loads in
-    (keeps.session (spaces_kept s.checkpoints) s.drawn c.self.invariant.0, c.self.invariant.1, c.self.invariant.2)
+    let keeps = session_other c.args.file.now s.machine c.load.new.self [] s.breakpoints c.in-Some.p c.in-Ok.ensures.taken (sym c.in-Some.ensures.next) c.in-Err-load.error c.in-Err-load.ensures.loads in
+    (keeps.session (spaces_kept s.checkpoints) s.numbers c.self.invariant.0, c.self.invariant.1, c.self.invariant.2)
 
 pub returns-in-Ok-load-clause-runs : goal.returns-in-Ok-load-clause-runs
 returns-in-Ok-load-clause-runs c =
     let s = c.self.inside in
-    runs_loaded c.args.file.now s.machine c.load.new.self (checkpoints_in (spaces_of c.load.new.self) s.checkpoints) s.breakpoints s.drawn c.in-Some.p c.in-Ok.ensures.taken (sym c.in-Some.ensures.next)
+    runs_loaded c.args.file.now s.machine c.load.new.self (checkpoints_in (spaces_of c.load.new.self) s.checkpoints) s.breakpoints c.in-Some.p c.in-Ok.ensures.taken (sym c.in-Some.ensures.next)
     c.in-Ok-load.pages c.entry.result c.in-Ok-load.ensures.loads
 
 pub returns-in-Ok-load-clause-gives : goal.returns-in-Ok-load-clause-gives
@@ -42,8 +50,8 @@ returns-in-Ok-load-clause-gives c =
     let answer = Loaded c.in-Some.p c.in-Ok-load.pages c.entry.result in
     subst (λ (s : InSession). GivesChange (load_row file (registry_of s.state)) s.state (Loaded c.in-Some.p c.in-Ok-load.pages c.entry.result)
     (shown_state c.load.new.self c.self.inside.checkpoints c.self.inside.breakpoints c.in-Some.p)) c.self.view_is
-    (gives_kept (load_row file) old new s.checkpoints s.breakpoints s.drawn (next_same old new (spaces_kept s.checkpoints) s.drawn c.in-Some.p c.self.invariant.0 c.in-Some.ensures.free.0 c.in-Ok-load.ensures.loads.2.others) answer c.in-Some.p
-    (gives_loaded file old new (checkpoints_in (spaces_of old) s.checkpoints) s.breakpoints s.drawn c.in-Some.p c.in-Ok.ensures.taken (sym c.in-Some.ensures.next)
+    (gives_kept (load_row file) old new s.checkpoints s.breakpoints (next_same old new (spaces_kept s.checkpoints) s.numbers c.in-Some.p c.self.invariant.0 c.in-Some.ensures.free.0 c.in-Ok-load.ensures.loads.2.others) answer c.in-Some.p
+    (gives_loaded file old new (checkpoints_in (spaces_of old) s.checkpoints) s.breakpoints c.in-Some.p c.in-Ok.ensures.taken (sym c.in-Some.ensures.next)
     (c.self.invariant.2 c.in-Some.p c.in-Some.ensures.free.0) c.in-Ok-load.pages c.entry.result c.in-Ok-load.ensures.loads (c.entry.ensures ∙ c.in-Ok.ensures.entry)))
 
 pub returns-clause-gives : goal.returns-clause-gives
@@ -54,35 +62,35 @@ returns-clause-gives c =
     let new = c.load.new.self in
     let kept = checkpoints_in (spaces_of old) s.checkpoints in
     let e = c.in-Err-load.error in
-    let keeps = session_other file old new kept s.breakpoints s.drawn c.in-Some.p c.in-Ok.ensures.taken (sym c.in-Some.ensures.next) e c.in-Err-load.ensures.loads in
-    let given = gives_other file old new kept s.breakpoints s.drawn c.in-Some.p c.in-Ok.ensures.taken (sym c.in-Some.ensures.next) e c.in-Err-load.ensures.loads in
-    subst (λ (s : InSession). GivesChange (load_row file (registry_of s.state)) s.state c.not_made.result (shown_state c.load.new.self c.self.inside.checkpoints c.self.inside.breakpoints c.self.inside.drawn)) c.self.view_is
-    (gives_kept (load_row file) old new s.checkpoints s.breakpoints s.drawn (free_same old new (spaces_kept s.checkpoints) keeps.free c.self.invariant.0.free) c.not_made.result s.drawn
-    (subst (λ a. GivesChange (load_row file (registry_of (shown_state c.self.inside.machine c.self.inside.checkpoints c.self.inside.breakpoints c.self.inside.drawn)))
-    (shown_state c.self.inside.machine c.self.inside.checkpoints c.self.inside.breakpoints c.self.inside.drawn) a
-    (record { wholes = (shown_state c.load.new.self c.self.inside.checkpoints c.self.inside.breakpoints c.self.inside.drawn).wholes; checkpoints = checkpoints_in (spaces_of c.self.inside.machine) c.self.inside.checkpoints; breakpoints = c.self.inside.breakpoints; drawn = c.self.inside.drawn }))
+    let keeps = session_other file old new kept s.breakpoints c.in-Some.p c.in-Ok.ensures.taken (sym c.in-Some.ensures.next) e c.in-Err-load.ensures.loads in
+    let given = gives_other file old new kept s.breakpoints c.in-Some.p c.in-Ok.ensures.taken (sym c.in-Some.ensures.next) e c.in-Err-load.ensures.loads in
+    subst (λ (s : InSession). GivesChange (load_row file (registry_of s.state)) s.state c.not_made.result (shown_state c.load.new.self c.self.inside.checkpoints c.self.inside.breakpoints)) c.self.view_is
+    (gives_kept (load_row file) old new s.checkpoints s.breakpoints (free_same old new (spaces_kept s.checkpoints) keeps.free c.self.invariant.0.free) c.not_made.result
+    (subst (λ a. GivesChange (load_row file (registry_of (shown_state c.self.inside.machine c.self.inside.checkpoints c.self.inside.breakpoints)))
+    (shown_state c.self.inside.machine c.self.inside.checkpoints c.self.inside.breakpoints) a
+    (record { wholes = (shown_state c.load.new.self c.self.inside.checkpoints c.self.inside.breakpoints).wholes; checkpoints = checkpoints_in (spaces_of c.self.inside.machine) c.self.inside.checkpoints; breakpoints = c.self.inside.breakpoints }))
     (sym c.not_made.ensures) given))
 
 pub returns-in-Ok-load-clause-stands : goal.returns-in-Ok-load-clause-stands
 returns-in-Ok-load-clause-stands c =
     let drawn = c.in-Some.p in
-    gives_as (load_row c.args.file.now) c.args.self.now (shown_session c.load.new.self c.self.inside.checkpoints c.self.inside.breakpoints drawn c.self.inside.modes)
+    gives_as (load_row c.args.file.now) c.args.self.now (shown_session c.load.new.self c.self.inside.checkpoints c.self.inside.breakpoints c.self.inside.modes)
     (Loaded drawn c.in-Ok-load.pages c.entry.result) (returns-in-Ok-load-clause-gives c)
 
 pub returns-clause-stands : goal.returns-clause-stands
 returns-clause-stands c =
-    gives_as (load_row c.args.file.now) c.args.self.now (shown_session c.load.new.self c.self.inside.checkpoints c.self.inside.breakpoints c.self.inside.drawn c.self.inside.modes)
+    gives_as (load_row c.args.file.now) c.args.self.now (shown_session c.load.new.self c.self.inside.checkpoints c.self.inside.breakpoints c.self.inside.modes)
     c.not_made.result (returns-clause-gives c)
 
 pub returns-clause-ample : goal.returns-clause-ample
 returns-clause-ample c =
     amply_loaded c.args.file.now c.args.self.now
-    (shown_session c.load.new.self c.self.inside.checkpoints c.self.inside.breakpoints c.self.inside.drawn c.self.inside.modes) c.not_made.result (returns-clause-stands c)
+    (shown_session c.load.new.self c.self.inside.checkpoints c.self.inside.breakpoints c.self.inside.modes) c.not_made.result (returns-clause-stands c)
 
 pub returns-clause-want : goal.returns-clause-want
 returns-clause-want c =
     let s = c.self.inside in
     let new = c.load.new.self in
-    told_keeps c.args.self.now (shown_session s.machine s.checkpoints s.breakpoints s.drawn s.modes) (shown_session new s.checkpoints s.breakpoints s.drawn s.modes)
+    told_keeps c.args.self.now (shown_session s.machine s.checkpoints s.breakpoints s.modes) (shown_session new s.checkpoints s.breakpoints s.modes)
     c.not_made.result (answer_of c.in-Err-load.error) c.self.view_is c.not_made.ensures
-    (load_keeps_all s.machine new s.checkpoints s.breakpoints s.drawn s.modes c.in-Some.p c.args.file.now c.in-Err-load.error c.in-Err-load.ensures.loads)
+    (load_keeps_all s.machine new s.checkpoints s.breakpoints s.modes c.in-Some.p c.args.file.now c.in-Err-load.error c.in-Err-load.ensures.loads)

@@ -13,7 +13,7 @@ use Rattle.command_core.proofs.session.Session.new.Goals as goal
 pub returns-clause-session : goal.returns-clause-session
 returns-clause-session c =
     let started : Wholes → Bases → InSession =
-    λ w bases. record { state = record { wholes = w; checkpoints = []; breakpoints = empty; drawn = 0 }; modes = record { frames = c.args.frames; quantum = c.args.quantum }; bases = bases } in
+    λ w bases. record { state = record { wholes = w; checkpoints = []; breakpoints = empty }; modes = record { frames = c.args.frames; quantum = c.args.quantum }; bases = bases } in
     let machine = c.in_ok-new.field-0 in
     let all = wholes_start machine (record { frames = c.args.frames; quantum = c.args.quantum }) c.in_ok-new.ensures.spaces c.in_ok-new.ensures.processes c.in_ok-new.ensures.lists in
     let none = no_bases machine (record { frames = c.args.frames; quantum = c.args.quantum }) c.in_ok-new.ensures.spaces c.in_ok-new.ensures.processes in
@@ -23,7 +23,7 @@ returns-clause-session c =
 
 pub returns-clause-stands : goal.returns-clause-stands
 returns-clause-stands c =
-    let started : Wholes → State = λ w. record { wholes = w; checkpoints = []; breakpoints = empty; drawn = 0 } in
+    let started : Wholes → State = λ w. record { wholes = w; checkpoints = []; breakpoints = empty } in
     states_same _ (fresh (record { frames = c.args.frames; quantum = c.args.quantum }))
     (ap (λ xs. shown_state c.in_ok-new.field-0 xs c.new-3.result 0) c.new-2.ensures
     ∙ ap (λ (breaks : Breaks). shown_state c.in_ok-new.field-0 [] breaks 0) c.new-3.ensures

@@ -18,4 +18,4 @@ returns-clause-stands c =
 
 pub returns-clause-within : goal.returns-clause-within
 returns-clause-within c =
-    next_within c.self.inside.machine (spaces_kept c.self.inside.checkpoints) c.self.inside.drawn c.args.from c.next_process.result c.self.invariant.0 c.next_process.ensures
+    next_within c.self.inside.machine (spaces_kept c.self.inside.checkpoints) c.self.inside.numbers c.args.from c.next_process.result c.self.invariant.0 c.next_process.ensures

@@ -13,7 +13,7 @@ use Rattle.command_core.proofs.session.Session.poke.Goals as goal
 
 pub invariant_of-self : goal.invariant_of-self
 invariant_of-self c =
-    (c.poke.ensures.done.keeps.session (spaces_kept c.self.inside.checkpoints) c.self.inside.drawn c.self.invariant.0, c.self.invariant.1, c.self.invariant.2)
+    (c.poke.ensures.done.keeps.session (spaces_kept c.self.inside.checkpoints) c.self.inside.numbers c.self.invariant.0, c.self.invariant.1, c.self.invariant.2)
 
 pub returns-in-Some-clause-gives : goal.returns-in-Some-clause-gives
 returns-in-Some-clause-gives c =
@@ -24,15 +24,15 @@ returns-in-Some-clause-gives c =
     let kept = checkpoints_in (spaces_of old) s.checkpoints in
     let done = subst (λ bytes. MachineGives (poke_row c.args.p c.args.address bytes (whole_in (spaces_of c.self.inside.machine) c.args.p c.in-Some.process.now))
     c.self.inside.machine c.poke.result c.poke.new.machine) c.as_slice.ensures c.poke.ensures.done in
-    subst (λ (s : InSession). GivesChange (on_process c.args.p row (registry_of s.state)) s.state c.poke.result (shown_state new c.self.inside.checkpoints c.self.inside.breakpoints c.self.inside.drawn)) c.self.view_is
-    (gives_kept (on_process c.args.p row) old new s.checkpoints s.breakpoints s.drawn (free_same old new (spaces_kept s.checkpoints) done.keeps.free c.self.invariant.0.free) c.poke.result s.drawn
-    (gives_found old kept s.breakpoints s.drawn c.args.p row c.in-Some.process.now c.poke.result (session_state new kept s.breakpoints s.drawn) (sym c.in-Some.ensures.kept)
-    (done.gives kept s.breakpoints s.drawn)))
+    subst (λ (s : InSession). GivesChange (on_process c.args.p row (registry_of s.state)) s.state c.poke.result (shown_state new c.self.inside.checkpoints c.self.inside.breakpoints)) c.self.view_is
+    (gives_kept (on_process c.args.p row) old new s.checkpoints s.breakpoints (free_same old new (spaces_kept s.checkpoints) done.keeps.free c.self.invariant.0.free) c.poke.result
+    (gives_found old kept s.breakpoints c.args.p row c.in-Some.process.now c.poke.result (session_state new kept s.breakpoints) (sym c.in-Some.ensures.kept)
+    (done.gives kept s.breakpoints)))
 
 pub returns-in-Some-clause-want : goal.returns-in-Some-clause-want
 returns-in-Some-clause-want c =
     let s = c.self.inside in
     let new = c.poke.new.machine in
-    told_keeps c.args.self.now (shown_session s.machine s.checkpoints s.breakpoints s.drawn s.modes) (shown_session new s.checkpoints s.breakpoints s.drawn s.modes)
+    told_keeps c.args.self.now (shown_session s.machine s.checkpoints s.breakpoints s.modes) (shown_session new s.checkpoints s.breakpoints s.modes)
     c.poke.result c.poke.result c.self.view_is refl
-    (machine_keeps s.machine new s.checkpoints s.breakpoints s.drawn s.modes c.poke.result c.poke.ensures.done.want)
+    (machine_keeps s.machine new s.checkpoints s.breakpoints s.modes c.poke.result c.poke.ensures.done.want)

@@ -14,10 +14,10 @@ use Rattle.command_core.proofs.session.Session.remove_breakpoint.Goals as goal
 pub invariant_of-self : goal.invariant_of-self
 invariant_of-self c =
     let s = c.self.inside in
-    let there = was_drawn s.machine (spaces_kept s.checkpoints) s.drawn c.args.p c.in-Some.field-0.now c.self.invariant.0 (sym c.in-Some.ensures.kept) in (
+    let there = was_drawn s.machine (spaces_kept s.checkpoints) s.numbers c.args.p c.in-Some.field-0.now c.self.invariant.0 (sym c.in-Some.ensures.kept) in (
       c.self.invariant.0,
       c.self.invariant.1,
-      subst (NoBreaksAbove s.drawn) (sym c.remove.ensures) (above_without s.breakpoints s.drawn c.args.p c.args.address there c.self.invariant.2),
+      subst (NoBreaksAbove s.drawn) (sym c.remove.ensures) (above_without s.breakpoints c.args.p c.args.address there c.self.invariant.2),
     )
 
 pub returns-clause-gives : goal.returns-clause-gives
@@ -25,9 +25,9 @@ returns-clause-gives c =
     let s = c.self.inside in
     let p = c.args.p in
     subst (λ (s : InSession). GivesChange (on_process p (unbreak_row p c.args.address) (registry_of s.state)) s.state Done
-    (shown_state c.self.inside.machine c.self.inside.checkpoints c.remove.new.self c.self.inside.drawn)) c.self.view_is
+    (shown_state c.self.inside.machine c.self.inside.checkpoints c.remove.new.self)) c.self.view_is
     (subst (λ (breaks : Breaks). GivesChange (on_process p (unbreak_row p c.args.address)
-    (registry_of (shown_state c.self.inside.machine c.self.inside.checkpoints c.self.inside.breakpoints c.self.inside.drawn)))
-    (shown_state c.self.inside.machine c.self.inside.checkpoints c.self.inside.breakpoints c.self.inside.drawn) Done
-    (shown_state c.self.inside.machine c.self.inside.checkpoints breaks c.self.inside.drawn)) (sym c.remove.ensures)
-    (break_removed s.machine s.checkpoints s.breakpoints s.drawn p c.args.address c.in-Some.field-0.now (sym c.in-Some.ensures.kept)))
+    (registry_of (shown_state c.self.inside.machine c.self.inside.checkpoints c.self.inside.breakpoints)))
+    (shown_state c.self.inside.machine c.self.inside.checkpoints c.self.inside.breakpoints) Done
+    (shown_state c.self.inside.machine c.self.inside.checkpoints breaks)) (sym c.remove.ensures)
+    (break_removed s.machine s.checkpoints s.breakpoints p c.args.address c.in-Some.field-0.now (sym c.in-Some.ensures.kept)))

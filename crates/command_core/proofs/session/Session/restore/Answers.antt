@@ -21,7 +21,7 @@ pub returns-in-None-get-clause-gives : goal.returns-in-None-get-clause-gives
 returns-in-None-get-clause-gives c =
     let s = c.self.inside in
     subst (λ (s : InSession). GivesChange (on_process c.args.p (restore_row c.args.p c.args.name.now) (registry_of s.state)) s.state (Refused NoCheckpoint) s.state) c.self.view_is
-    (restore_unnamed s.machine s.checkpoints s.breakpoints s.drawn c.args.p c.args.name.now c.in-Some.field-0.now (sym c.in-Some.ensures.kept)
+    (restore_unnamed s.machine s.checkpoints s.breakpoints c.args.p c.args.name.now c.in-Some.field-0.now (sym c.in-Some.ensures.kept)
     (sym c.if-is_speculating.false ∙ told_mark s.machine c.args.p c.is_speculating.result c.memory.result.now c.is_speculating.ensures.mark c.memory.ensures)
     (sym (c.in-None-get.ensures ∙ ap (λ n. kept_named n s.checkpoints) c.as_slice.ensures)))
 
@@ -43,7 +43,7 @@ pub restore_process-requires-clause-unmarked : goal.restore_process-requires-cla
 restore_process-requires-clause-unmarked c =
     let s = c.self.inside in
     let x = c.in-Some-get.kept.now in
-    free_unmarked s.machine (spaces_kept s.checkpoints) s.drawn x.space c.self.invariant.0
+    free_unmarked s.machine (spaces_kept s.checkpoints) s.numbers x.space c.self.invariant.0
     (found_has c.as_slice.result.now (HasNoProcess s.machine) s.checkpoints x c.self.invariant.0.free (sym c.in-Some-get.ensures))
 
 -- it is done
@@ -53,7 +53,7 @@ invariant_of-self-2 c =
     let s = c.self.inside in
     let x = c.in-Some-get.kept.now in
     let copied = subst (λ (y : declared.Process). CopiesProcess (Some c.args.p) x.space c.args.p y s.machine c.restore_process.new.machine (Ok tt)) c.process-in-Some-get.ensures c.in-Ok.ensures in (
-      session_of_restored s.machine c.restore_process.new.machine (spaces_kept s.checkpoints) s.drawn c.args.p x c.self.invariant.0 (ap is_some (sym c.in-Some.ensures.kept))
+      session_of_restored s.machine c.restore_process.new.machine (spaces_kept s.checkpoints) s.numbers c.args.p x c.self.invariant.0 (ap is_some (sym c.in-Some.ensures.kept))
           (found_has c.as_slice.result.now (HasNoProcess s.machine) s.checkpoints x c.self.invariant.0.free (sym c.in-Some-get.ensures)) copied,
       c.self.invariant.1,
       c.self.invariant.2,
@@ -65,8 +65,8 @@ returns-clause-gives c =
     let x = c.in-Some-get.kept.now in
     let copied = subst (λ (y : declared.Process). CopiesProcess (Some c.args.p) x.space c.args.p y s.machine c.restore_process.new.machine (Ok tt)) c.process-in-Some-get.ensures c.in-Ok.ensures in
     subst (λ (s : InSession). GivesChange (on_process c.args.p (restore_row c.args.p c.args.name.now) (registry_of s.state)) s.state Done
-    (shown_state c.restore_process.new.machine c.self.inside.checkpoints c.self.inside.breakpoints c.self.inside.drawn)) c.self.view_is
-    (restored_done s.machine s.checkpoints s.breakpoints s.drawn c.args.p c.args.name.now c.in-Some.field-0.now (sym c.in-Some.ensures.kept) c.restore_process.new.machine x c.self.invariant.0
+    (shown_state c.restore_process.new.machine c.self.inside.checkpoints c.self.inside.breakpoints)) c.self.view_is
+    (restored_done s.machine s.checkpoints s.breakpoints c.args.p c.args.name.now c.in-Some.field-0.now (sym c.in-Some.ensures.kept) c.restore_process.new.machine x c.self.invariant.0
     (sym c.if-is_speculating.false ∙ told_mark s.machine c.args.p c.is_speculating.result c.memory.result.now c.is_speculating.ensures.mark c.memory.ensures)
     (sym (c.in-Some-get.ensures ∙ ap (λ n. kept_named n s.checkpoints) c.as_slice.ensures)) copied)
 
@@ -76,17 +76,17 @@ pub invariant_of-self : goal.invariant_of-self
 invariant_of-self c =
     let s = c.self.inside in
     let keeps = copy_keeps c.in-Some-get.kept.now.space c.args.p s.machine c.restore_process.new.machine c.in-Err.error c.in-Err.ensures in
-    (keeps.session (spaces_kept s.checkpoints) s.drawn c.self.invariant.0, c.self.invariant.1, c.self.invariant.2)
+    (keeps.session (spaces_kept s.checkpoints) s.numbers c.self.invariant.0, c.self.invariant.1, c.self.invariant.2)
 
 pub returns-in-Err-clause-gives : goal.returns-in-Err-clause-gives
 returns-in-Err-clause-gives c =
     let s = c.self.inside in
     let x = c.in-Some-get.kept.now in
     subst (λ (s : InSession). GivesChange (on_process c.args.p (restore_row c.args.p c.args.name.now) (registry_of s.state)) s.state c.not_made.result
-    (shown_state c.restore_process.new.machine c.self.inside.checkpoints c.self.inside.breakpoints c.self.inside.drawn)) c.self.view_is
-    (subst (λ a. GivesChange (on_process c.args.p (restore_row c.args.p c.args.name.now) (registry_of (shown_state c.self.inside.machine c.self.inside.checkpoints c.self.inside.breakpoints c.self.inside.drawn)))
-    (shown_state c.self.inside.machine c.self.inside.checkpoints c.self.inside.breakpoints c.self.inside.drawn) a (shown_state c.restore_process.new.machine c.self.inside.checkpoints c.self.inside.breakpoints c.self.inside.drawn)) (sym c.not_made.ensures)
-    (not_restored s.machine s.checkpoints s.breakpoints s.drawn c.args.p c.args.name.now c.in-Some.field-0.now (sym c.in-Some.ensures.kept) c.restore_process.new.machine x c.self.invariant.0
+    (shown_state c.restore_process.new.machine c.self.inside.checkpoints c.self.inside.breakpoints)) c.self.view_is
+    (subst (λ a. GivesChange (on_process c.args.p (restore_row c.args.p c.args.name.now) (registry_of (shown_state c.self.inside.machine c.self.inside.checkpoints c.self.inside.breakpoints)))
+    (shown_state c.self.inside.machine c.self.inside.checkpoints c.self.inside.breakpoints) a (shown_state c.restore_process.new.machine c.self.inside.checkpoints c.self.inside.breakpoints)) (sym c.not_made.ensures)
+    (not_restored s.machine s.checkpoints s.breakpoints c.args.p c.args.name.now c.in-Some.field-0.now (sym c.in-Some.ensures.kept) c.restore_process.new.machine x c.self.invariant.0
     (sym c.if-is_speculating.false ∙ told_mark s.machine c.args.p c.is_speculating.result c.memory.result.now c.is_speculating.ensures.mark c.memory.ensures)
     (sym (c.in-Some-get.ensures ∙ ap (λ n. kept_named n s.checkpoints) c.as_slice.ensures)) c.in-Err.error c.in-Err.ensures))
 
@@ -94,6 +94,6 @@ pub returns-in-Err-clause-want : goal.returns-in-Err-clause-want
 returns-in-Err-clause-want c =
     let s = c.self.inside in
     let new = c.restore_process.new.machine in
-    told_keeps c.args.self.now (shown_session s.machine s.checkpoints s.breakpoints s.drawn s.modes) (shown_session new s.checkpoints s.breakpoints s.drawn s.modes)
+    told_keeps c.args.self.now (shown_session s.machine s.checkpoints s.breakpoints s.modes) (shown_session new s.checkpoints s.breakpoints s.modes)
     c.not_made.result (answer_of c.in-Err.error) c.self.view_is c.not_made.ensures
-    (copy_keeps_all s.machine new s.checkpoints s.breakpoints s.drawn s.modes c.in-Some-get.kept.now.space c.args.p c.in-Err.error c.in-Err.ensures)
+    (copy_keeps_all s.machine new s.checkpoints s.breakpoints s.modes c.in-Some-get.kept.now.space c.args.p c.in-Err.error c.in-Err.ensures)

@@ -8,14 +8,14 @@ use Rattle.command_core.proofs.session.Session.turn.Goals as goal
 pub returns-clause-stands : goal.returns-clause-stands
 returns-clause-stands c =
     let s = c.self.inside in
-    let before : InSession = shown_session s.machine s.checkpoints s.breakpoints s.drawn s.modes in
-    let after : InSession = shown_session c.next_turn.new.machine s.checkpoints s.breakpoints s.drawn s.modes in
+    let before : InSession = shown_session s.machine s.checkpoints s.breakpoints s.modes in
+    let after : InSession = shown_session c.next_turn.new.machine s.checkpoints s.breakpoints s.modes in
     subst (λ (s : InSession). TurnsAs (takes_turn c.args.running.now c.next_turn.result c.next_turn.new.running) s after) c.self.view_is
     (turns_as before after c.args.running.now c.next_turn.new.running c.next_turn.result c.next_turn.ensures.turn
-    (rest_kept s.machine c.next_turn.new.machine s.checkpoints s.breakpoints s.drawn s.modes c.self.invariant.0 c.next_turn.ensures.free))
+    (rest_kept s.machine c.next_turn.new.machine s.checkpoints s.breakpoints s.modes s.numbers c.self.invariant.0 c.next_turn.ensures.free))
 
 pub returns-clause-others : goal.returns-clause-others
 returns-clause-others c =
     let s = c.self.inside in
-    subst (λ (old : InSession). KeepsRest old (shown_session c.next_turn.new.machine s.checkpoints s.breakpoints s.drawn s.modes)) c.self.view_is
-    (rest_kept s.machine c.next_turn.new.machine s.checkpoints s.breakpoints s.drawn s.modes c.self.invariant.0 c.next_turn.ensures.free)
+    subst (λ (old : InSession). KeepsRest old (shown_session c.next_turn.new.machine s.checkpoints s.breakpoints s.modes)) c.self.view_is
+    (rest_kept s.machine c.next_turn.new.machine s.checkpoints s.breakpoints s.modes s.numbers c.self.invariant.0 c.next_turn.ensures.free)
