@@ -1,13 +1,15 @@
 use Rattle.std.proofs.Common.{◌≡◌, ℕ, ◌+◌, ◌<◌, ◌&&◌, Bool, true, false, cond, List, sym, ap, subst, ◌∙◌, refl, arith, Option, Some, None}
 use Rattle.std.specs.Borrow.{Bor}
 use Rattle.std.specs.Option.{is_some, option_and_then, option_copied, option_map_or, unwrap_or}
-use Rattle.std.specs.FinMap.{get, insert, remove}
+use Rattle.std.specs.FinMap.{FinMap, get, insert, remove}
 use Rattle.std.specs.FinSet.{contains, contains-empty, empty, remove as without_address}
 use Rattle.std.specs.Ordering.{nat_cmp}
 use Rattle.number_maps.specs.Keys.{alike, by_key, get_other, get_same, removed_other, removed_same}
 use Rattle.breakpoints.specs.Breakpoints.{Addresses, Breaks, addresses_of, without_break}
 use Rattle.machine_core.specs.Process.{Process, runs}
-use Rattle.machine_core.specs.Machine.{Machine, Wholes}
+use Rattle.machine_core.specs.Machine.{Machine, StaysBut, Wholes, shown_process}
+use Rattle.machine_core.specs.declared.process.Process as declared
+use Rattle.machine_core.specs.Load.{IsLoaded, loaded_process}
 use Rattle.machine_core.specs.Turns.{Guest, with_guest}
 use Rattle.machine_core.specs.Executions.{is_at_stop, stops_in}
 use Rattle.report_text.specs.declared.answer.Stop.{Stop}
@@ -44,6 +46,16 @@ none_removed breaks p none = alike _ _ (λ q. by_key q p
 -- is there gets others.
 pub breaks_kept : (old new : Machine) (breaks : Breaks) → NoneGoes old new → AreBreaksOf old breaks → AreBreaksOf new breaks
 breaks_kept old new breaks stay none q gone = none q (stay q gone)
+
+-- where one comes, or another in its place
+pub breaks_more : (old new : Machine) (breaks : Breaks) (n : ℕ) → is_some (get new.processes n) ≡ true → StaysBut n old new → AreBreaksOf old breaks → AreBreaksOf new breaks
+breaks_more old new breaks n there others none q gone =
+    none q (sym (others.processes q (not_free new n q there gone)) ∙ gone)
+
+pub breaks_loaded : (old new : Machine) (breaks : Breaks) (n : ℕ) (file : List ℕ) → IsLoaded n file old new → AreBreaksOf old breaks → AreBreaksOf new breaks
+breaks_loaded old new breaks n file loaded =
+    breaks_more old new breaks n
+    (ap is_some (ap (λ (ps : FinMap nat_cmp declared.Process). get ps n) loaded.processes ∙ get_same old.processes n n (shown_process (loaded_process file)) refl)) loaded.others
 
 pub breaks_removed : (old new : Machine) (breaks : Breaks) (p : ℕ) → ((q : ℕ) → (q ≡ p → ⊥) → get new.processes q ≡ get old.processes q) → AreBreaksOf old breaks
     → AreBreaksOf new (remove breaks p)

@@ -20,12 +20,12 @@ use Rattle.space_maps.specs.Laws.{space_absent, space_left}
 use Rattle.space_maps.specs.Spaces.{cut_space, holds_space, space_in}
 use Rattle.machine_core.specs.Process.{Process, is_speculating, runs}
 use Rattle.machine_core.specs.declared.process.Process as declared
-use Rattle.machine_core.specs.Machine.{KeepsPlaces, Machine, Processes, StaysBut, has_saved, has_space, is_marked, is_running, kept_whole, lists_of, none_saved, processes_of, shown_process, spaces_of, whole_in, wholes, with_memory, with_process_at, Wholes}
+use Rattle.machine_core.specs.Machine.{AreLike, KeepsPlaces, Machine, Processes, StaysBut, has_saved, has_space, is_marked, is_running, kept_whole, lists_of, none_saved, processes_of, shown_process, spaces_of, whole_in, wholes, with_memory, with_process_at, Wholes}
 use Rattle.machine_core.specs.Laws.{processes_at, runs_shown, whole_by}
 use Rattle.machine_core.specs.Load.{IsAsBefore, IsLoaded, loaded_process}
 use Rattle.round_robin.specs.MemberLaws.{next_has}
 use Rattle.round_robin.specs.Turns.{Turns, next_number}
-use Rattle.command_core.specs.Sessions.{HasNoProcess, IsSession, KeepsFree, KeepsSession, OwnSpaces, bases_of}
+use Rattle.command_core.specs.Sessions.{HasNoProcess, IsSession, KeepsFree, KeepsSession, NoneGoes, OwnSpaces, bases_of}
 use Rattle.free_numbers.specs.Numbers.{IsPut, is_in, is_number}
 use Rattle.overlay_bits.specs.Below.{and_false, and_true}
 use Rattle.translation_cache.specs.Absent.{HasNone, none_at_first, none_flushed, none_of_own}
@@ -118,6 +118,16 @@ process_there machine p running = by_process (get machine.processes p) (sym (run
     by_process None h = cc
     by_process (Some process) h = refl
 
+-- turns of a process that runs leave the others
+pub free_turns : (p : ℕ) (old new : Machine) (left : Wholes) → StaysBut p old new → is_running (wholes old) p ≡ true → AreLike (wholes new) left
+    → ((q : ℕ) → (q ≡ p → ⊥) → HasNone q (lists_of old) → HasNone q left.translations) → KeepsFree old new
+free_turns p old new left others running like unlisted =
+    free_stays p old new others (process_there old p running) (λ q other none. subst (HasNone q) (sym like.translations) (unlisted q other none))
+
+-- no process goes where the same ones are there
+pub stay_kept : (old new : Machine) → KeepsPlaces old new → NoneGoes old new
+stay_kept old new same q none = none_is (get old.processes q) (sym (same.processes q) ∙ ap is_some none)
+
 pub space_there : (machine : Machine) (p : ℕ) → OwnSpaces machine → is_running (wholes machine) p ≡ true → has_space machine p ≡ true
 space_there machine p own running = own p (process_there machine p running)
 
@@ -182,6 +192,15 @@ module _ (machine : Machine) (modes : Modes) (none : IsEmptyState modes.frames (
 not_next : (machine : Machine) (n q : ℕ) → has_space machine n ≡ false → HasNoProcess machine q → q ≡ n → ⊥
 not_next machine n q absent h same = let both : false ≡ true = sym absent ∙ sym (ap (has_space machine) same) ∙ h.0 in cc
 
+-- what has no space has no process
+pub none_before : (machine : Machine) (spaces : List ℕ) (numbers : List (List ℕ)) (n : ℕ) → IsSession machine spaces numbers → has_space machine n ≡ false
+    → get machine.processes n ≡ None
+none_before machine spaces numbers n is absent = none_is (get machine.processes n) (by_some (is_some (get machine.processes n)) refl)
+  where
+    by_some : (b : Bool) → is_some (get machine.processes n) ≡ b → b ≡ false
+    by_some true some = let both : false ≡ true = sym absent ∙ is.own_space n some in cc
+    by_some false some = refl
+
 -- the next number has a space, and everything else is as it was
 module _ (old new : Machine) (spaces : List ℕ) (numbers left : List (List ℕ)) (n : ℕ) (is : IsSession old spaces numbers) (absent : has_space old n ≡ false)
     (number : is_number n ≡ true) (taken : IsPut numbers n false left)
@@ -190,13 +209,6 @@ module _ (old new : Machine) (spaces : List ℕ) (numbers left : List (List ℕ)
   still_free : AllByRecursion (HasNoProcess new) spaces
   still_free = each (HasNoProcess old) (HasNoProcess new) spaces
       (λ q h. let other = not_next old n q absent h in (others.there q other ∙ h.0, others.processes q other ∙ h.1)) is.free
-
-  none_before : get old.processes n ≡ None
-  none_before = none_is (get old.processes n) (by_some (is_some (get old.processes n)) refl)
-    where
-      by_some : (b : Bool) → is_some (get old.processes n) ≡ b → b ≡ false
-      by_some true some = let both : false ≡ true = sym absent ∙ is.own_space n some in cc
-      by_some false some = refl
 
   with_next : (more : List ℕ) → AllByRecursion (HasNoProcess new) more → IsDistinct nat_eq more → ((q : ℕ) → list_any (λ x. x == q) spaces ≡ true → list_any (λ x. x == q) more ≡ true)
       → (get new.processes n ≡ None → list_any (λ x. x == n) more ≡ true) → IsSession new more left
@@ -220,7 +232,7 @@ module _ (old new : Machine) (spaces : List ℕ) (numbers left : List (List ℕ)
     free = free;
     once = once;
     unseen = λ p none. subst (HasNone p) (sym lists) (by_key p n
-        (λ same. is.unseen p (ap (get old.processes) same ∙ none_before)) (λ other. is.unseen p (sym (others.processes p other) ∙ none)));
+        (λ same. is.unseen p (ap (get old.processes) same ∙ none_before old spaces numbers n is absent)) (λ other. is.unseen p (sym (others.processes p other) ∙ none)));
   }
 
   -- a process's, or one without a process

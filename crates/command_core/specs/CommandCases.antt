@@ -11,7 +11,31 @@ use Rattle.command_core.specs.Commands.{Performed, Rules, change_told, performed
 -- what is told by the ledger
 abbrev pub ledger_done : Command → Option (State → Performed State)
 ledger_done command.Stats = Some stats_done
-ledger_done other = None
+ledger_done (command.Load name) = None
+ledger_done (command.Exec name turns) = None
+ledger_done (command.Run turns) = None
+ledger_done (command.Step p turns) = None
+ledger_done (command.Fork p) = None
+ledger_done (command.Checkpoint p name) = None
+ledger_done (command.Restore p name) = None
+ledger_done (command.Forget name) = None
+ledger_done (command.Speculate p) = None
+ledger_done (command.Commit p) = None
+ledger_done (command.Discard p) = None
+ledger_done (command.Promote p address) = None
+ledger_done (command.PromoteAll p) = None
+ledger_done command.Compact = None
+ledger_done (command.Map p address n perms) = None
+ledger_done (command.Unmap p address n) = None
+ledger_done (command.Drop p) = None
+ledger_done (command.Poke p address bytes) = None
+ledger_done (command.Set p register value) = None
+ledger_done (command.Break p address) = None
+ledger_done (command.Unbreak p address) = None
+ledger_done command.List = None
+ledger_done (command.Regs p) = None
+ledger_done (command.Dump p address count) = None
+ledger_done (command.Disasm p address words) = None
 
 pub data GoesBy {S T : Type 0} (x : Rules S) (y : Rules T) (modes : Modes) (file : List ℕ) : Command → Type 0 where
   ByExec : (name : List ℕ) (turns : ℕ) → GoesBy x y modes file (command.Exec name turns)

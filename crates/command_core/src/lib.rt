@@ -1,7 +1,7 @@
 //! The session: what the commands of a script do to a machine of several processes.
 //!
-//! The model is the copying machine: the processes by number, each with its whole memory, the checkpoints by name, the breakpoints
-//! of each process, and how many numbers were drawn; for each command what it comes to, as one value.
+//! The model is the copying machine: the processes by number, each with its whole memory, the checkpoints by name, and the breakpoints
+//! of each process; for each command what it comes to, as one value.
 //!
 //! - `modes`: what is fixed for a whole run
 //! - `session`: loads, changes, and what is looked up

@@ -33,7 +33,7 @@ ended_text breaks old running new after found stop taken line sent ends is_found
 pub ended_after : (start old new : State) (first running after : InRun)
     → AreLike (left_of start.breakpoints start.wholes first).after (left_of start.breakpoints old.wholes running).after
     → EndsRun start.breakpoints old.wholes running new.wholes after → new.checkpoints ≡ start.checkpoints → new.breakpoints ≡ start.breakpoints
-    → new.drawn ≡ start.drawn → AreLikeStates new (takes_left first start).after
+    → AreLikeStates new (takes_left first start).after
 ended_after start old new first running after so_far ends checkpoints breakpoints =
     let begun = (left_of start.breakpoints start.wholes first).after in
     record {

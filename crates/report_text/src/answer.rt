@@ -20,7 +20,7 @@ pub enum Code {
     Unmapped(u64),
     /// A page is there already; its address.
     Mapped(u64),
-    /// All numbers of spaces were drawn.
+    /// All numbers of spaces are taken.
     NumbersUsed,
     /// The pages asked for don't fit.
     Outside,

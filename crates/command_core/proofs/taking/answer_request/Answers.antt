@@ -1,6 +1,8 @@
 use Rattle.machine_core.specs.Laws.{like_itself}
 use Rattle.machine_core.specs.Machine.{wholes}
-use Rattle.command_core.proofs.Places.{free_stays, process_there}
+use Rattle.machine_core.specs.Turns.{after_asked}
+use Rattle.machine_core.specs.Absent.{none_after_asked}
+use Rattle.command_core.proofs.Places.{free_turns}
 use Rattle.command_core.proofs.taking.answer_request.Goals as goal
 
 pub returns-clause-turn : goal.returns-clause-turn
@@ -11,4 +13,7 @@ returns-clause-after c = c.answer.ensures.stands (wholes c.args.machine.now) (li
 
 pub returns-clause-free : goal.returns-clause-free
 returns-clause-free c =
-    free_stays c.args.p c.args.machine.now c.answer.new.self c.answer.ensures.others (process_there c.args.machine.now c.args.p c.requires.runs)
+    let old = c.args.machine.now in
+    let p = c.args.p in
+    free_turns p old c.answer.new.self (after_asked (wholes old) p) c.answer.ensures.others c.requires.runs (returns-clause-after c)
+    (λ q other none. none_after_asked q p other (wholes old) none)

@@ -1,11 +1,22 @@
-use Rattle.std.proofs.Common.{None, [], refl, ap, sym, ◌∙◌, arith}
-use Rattle.machine_core.specs.Machine.{wholes}
+use Rattle.std.proofs.Common.{◌≡◌, ℕ, true, None, [], refl, ap, sym, ◌∙◌, arith}
+use Rattle.machine_core.specs.Machine.{AreLike, Machine, StaysBut, is_running, wholes}
 use Rattle.report_text.specs.Answers.{turn_text}
 use Rattle.command_core.specs.Turns.{InRun, run_counted, run_took}
 use Rattle.command_core.proofs.Rans.{fewer_counted, fewer_left, none_stopped, speaks_by}
-use Rattle.command_core.proofs.Places.{free_stays, free_then, process_there}
+use Rattle.breakpoints.specs.Breakpoints.{Breaks, addresses_of}
+use Rattle.machine_core.specs.Absent.{none_after_executions}
+use Rattle.machine_core.specs.Executions.{after_executions}
+use Rattle.command_core.specs.Sessions.{KeepsFree}
+use Rattle.command_core.proofs.Places.{free_then, free_turns}
 use Rattle.command_core.proofs.Stretching.{all_taken, asked_runs, fits_left, goes_on, last_turn, no_line, says_last}
 use Rattle.command_core.proofs.taking.take_turns.Goals as goal
+
+-- executions leave the other processes
+executed_free : (breaks : Breaks) (p most : ℕ) (old new : Machine) → StaysBut p old new → is_running (wholes old) p ≡ true
+    → AreLike (wholes new) (after_executions (addresses_of breaks p) most (wholes old) p) → KeepsFree old new
+executed_free breaks p most old new others runs after =
+    free_turns p old new (after_executions (addresses_of breaks p) most (wholes old) p) others runs after
+    (λ q other none. none_after_executions q p other (addresses_of breaks p) most (wholes old) none)
 
 pub took_turns-requires : goal.took_turns-requires
 took_turns-requires c =
@@ -38,7 +49,8 @@ returns-in-Stepped-clause-fewer c =
 
 pub returns-in-Stepped-clause-free : goal.returns-in-Stepped-clause-free
 returns-in-Stepped-clause-free c =
-    free_stays c.args.p c.args.machine.now c.execute_up_to-steps.new.machine c.execute_up_to-steps.ensures.others (process_there c.args.machine.now c.args.p c.requires.runs)
+    executed_free c.args.breakpoints.now c.args.p c.stretch.result c.args.machine.now c.execute_up_to-steps.new.machine c.execute_up_to-steps.ensures.others c.requires.runs
+    c.execute_up_to-steps.ensures.after
 
 -- a last turn that is no step
 
@@ -104,4 +116,4 @@ pub returns-clause-free : goal.returns-clause-free
 returns-clause-free c =
     let done = c.execute_up_to-steps in
     free_then c.args.machine.now done.new.machine c.end_stretch.new.machine done.ensures.places
-    (free_stays c.args.p c.args.machine.now done.new.machine done.ensures.others (process_there c.args.machine.now c.args.p c.requires.runs)) c.end_stretch.ensures.free
+    (executed_free c.args.breakpoints.now c.args.p c.stretch.result c.args.machine.now done.new.machine done.ensures.others c.requires.runs done.ensures.after) c.end_stretch.ensures.free

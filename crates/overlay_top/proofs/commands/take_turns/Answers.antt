@@ -70,6 +70,6 @@ returns-clause-takes g c =
       after = at_ok c.send-2.result
           (ended_after c.args.session.now.state c.turns.session.state c.turn_line.new.self.state c.args.running.now c.turns.running c.turn_line.new.running
           c.turns.invariant.after ends (c.turn_line.ensures.others.checkpoints ∙ c.turns.invariant.checkpoints)
-          (c.turn_line.ensures.others.breakpoints ∙ c.turns.invariant.breakpoints) (c.turn_line.ensures.others.drawn ∙ c.turns.invariant.drawn));
+          (c.turn_line.ensures.others.breakpoints ∙ c.turns.invariant.breakpoints));
       modes = c.turn_line.ensures.others.modes ∙ c.turns.invariant.modes;
     }

@@ -11,7 +11,6 @@ invariant-turns g l = record {
   sound : g.K.Sink.faults l.report.sink.now ≡ g.K.Sink.faults l.fn.report.sink.now;
   checkpoints : l.session.state.checkpoints ≡ l.fn.session.state.checkpoints;
   breakpoints : l.session.state.breakpoints ≡ l.fn.session.state.breakpoints;
-  drawn : l.session.state.drawn ≡ l.fn.session.state.drawn;
   modes : l.session.modes ≡ l.fn.session.modes;
   after : AreLike (left_of l.fn.session.state.breakpoints l.fn.session.state.wholes l.fn.running).after (left_of l.fn.session.state.breakpoints l.session.state.wholes l.running).after;
   text : g.K.Sink.tells → IsDone (g.K.Sink.taken l.fn.report.sink.now) (g.K.Sink.taken l.report.sink.now) (ran_text (left_of l.fn.session.state.breakpoints l.session.state.wholes l.running))

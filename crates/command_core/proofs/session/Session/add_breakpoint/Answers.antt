@@ -1,25 +1,26 @@
-use Rattle.std.proofs.Common.{sym, subst}
+use Rattle.std.proofs.Common.{ap, sym, subst}
+use Rattle.std.specs.Option.{is_some}
 use Rattle.std.specs.FinSet.{insert as with_address}
 use Rattle.breakpoints.specs.Breakpoints.{Breaks, addresses_of}
 use Rattle.report_text.specs.declared.answer.Answer.TheVariants.{Done}
 use Rattle.command_core.specs.State.{registry_of}
-use Rattle.command_core.specs.Sessions.{InSession, NoBreaksAbove}
+use Rattle.command_core.specs.Sessions.{AreBreaksOf, InSession}
 use Rattle.command_core.specs.Kept.{shown_state, spaces_kept}
 use Rattle.command_core.specs.Debugging.{break_row}
 use Rattle.command_core.specs.Changes.{on_process}
 use Rattle.command_core.specs.Giving.{GivesChange}
-use Rattle.command_core.proofs.Breaks.{above_put, was_drawn}
+use Rattle.command_core.proofs.Breaks.{breaks_put}
 use Rattle.command_core.proofs.Debugging.{break_added}
 use Rattle.command_core.proofs.session.Session.add_breakpoint.Goals as goal
 
 pub invariant_of-self-2 : goal.invariant_of-self-2
 invariant_of-self-2 c =
     let s = c.self.inside in
-    let there = was_drawn s.machine (spaces_kept s.checkpoints) s.numbers c.args.p c.in-Some.field-0.now c.self.invariant.0 (sym c.in-Some.ensures.kept) in (
+    let there = ap is_some (sym c.in-Some.ensures.kept) in (
       c.self.invariant.0,
       c.self.invariant.1,
-      subst (NoBreaksAbove s.drawn) (sym c.in-Ok.ensures.added)
-          (above_put s.breakpoints c.args.p (with_address (addresses_of s.breakpoints c.args.p) c.args.address) there c.self.invariant.2),
+      subst (AreBreaksOf s.machine) (sym c.in-Ok.ensures.added)
+          (breaks_put s.machine s.breakpoints c.args.p (with_address (addresses_of s.breakpoints c.args.p) c.args.address) there c.self.invariant.2),
     )
 
 pub returns-clause-gives : goal.returns-clause-gives

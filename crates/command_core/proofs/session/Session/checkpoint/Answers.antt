@@ -1,4 +1,4 @@
-use Rattle.std.proofs.Common.{◌≡◌, ◌∙◌, List, Some, None, subst, sym, refl}
+use Rattle.std.proofs.Common.{◌≡◌, ◌∙◌, List, Some, None, ap, subst, sym, refl}
 use Rattle.std.specs.Prelude.{Ok}
 use Rattle.command_core.specs.Rows.{first_refusal}
 use Rattle.report_text.specs.declared.answer.Answer.TheVariants.{Refused, Saved}
@@ -9,9 +9,11 @@ use Rattle.command_core.specs.Kept.{shown_session, shown_state, spaces_kept}
 use Rattle.command_core.specs.Giving.{GivesChange, WantKeeps}
 use Rattle.command_core.specs.Checkpoints.{SavesSpace, checkpoint_refusals, checkpoint_row}
 use Rattle.command_core.specs.Changes.{answer_of, on_process}
-use Rattle.command_core.proofs.Breaks.{above_more}
+use Rattle.std.specs.FinMap.{get}
+use Rattle.command_core.proofs.Breaks.{breaks_kept}
+use Rattle.command_core.proofs.Numbers.{next_is, taken_free}
 use Rattle.command_core.proofs.Copies.{copy_keeps}
-use Rattle.command_core.proofs.Places.{free_number}
+use Rattle.command_core.proofs.Places.{free_number, none_before}
 use Rattle.command_core.proofs.Savings.{checkpoint_refused, checkpoint_saved, checkpoint_unsaved, session_of_saved, taken_is, told_mark}
 use Rattle.command_core.proofs.Wanting.{copy_keeps_all, told_keeps}
 use Rattle.command_core.proofs.session.Session.checkpoint.Goals as goal
@@ -24,20 +26,21 @@ returns-in-Err-clause-gives c =
     c.is_speculating-speculating.result c.has-taken.result
     (told_mark s.machine c.args.p c.is_speculating-speculating.result c.memory.result.now c.is_speculating-speculating.ensures.mark c.memory.ensures)
     (taken_is s.checkpoints c.as_slice.result.now c.args.name.now c.has-taken.result c.as_slice.ensures c.has-taken.ensures)
-    c.in-Err.code (subst (λ o. first_refusal (checkpoint_refusals c.is_speculating-speculating.result c.has-taken.result o) ≡ Some c.in-Err.code) c.next_number.ensures.next c.in-Err.ensures))
+    c.in-Err.code (subst (λ o. first_refusal (checkpoint_refusals c.is_speculating-speculating.result c.has-taken.result o) ≡ Some c.in-Err.code) (next_is s.machine s.checkpoints s.breakpoints s.numbers c.self.invariant.0 c.least.result c.least.ensures) c.in-Err.ensures))
 
 -- it is made
 
 pub invariant_of-self : goal.invariant_of-self
 invariant_of-self c =
     let s = c.self.inside in
-    let free = free_number s.drawn c.in-Ok.q (sym c.next_number.ensures.next ∙ c.in-Ok.ensures.1) in
+    let free = free_number s.machine (spaces_kept s.checkpoints) s.numbers c.in-Ok.q c.self.invariant.0 (taken_free s.numbers c.least.result c.in-Ok.q c.least.ensures c.in-Ok.ensures.1) in
     let entered : Kept = record { name = c.args.name.now; space = c.in-Ok.q; regs = c.in-Some.process.now.regs; state = c.in-Some.process.now.state } in
     let saved = subst (λ t. SavesSpace c.args.p c.in-Ok.q c.self.inside.machine c.save_process.new.machine (Ok t)) c.in-Ok-save_process.ensures.kept.0 c.in-Ok-save_process.ensures.saves in (
-      subst (λ (xs : List Kept). IsSession c.save_process.new.machine (spaces_kept xs) c.in-Ok.q) (sym c.in-Ok-save_process.ensures.kept.1)
-          (session_of_saved s.machine c.save_process.new.machine s.checkpoints s.drawn c.in-Ok.q c.args.p entered c.self.invariant.0 free refl saved),
+      subst (λ (xs : List Kept). IsSession c.save_process.new.machine (spaces_kept xs) c.take.new.self) (sym c.in-Ok-save_process.ensures.kept.1)
+          (session_of_saved s.machine c.save_process.new.machine s.checkpoints s.numbers c.take.new.self c.in-Ok.q c.args.p entered c.self.invariant.0 free.0 free.1 c.take.ensures
+          (none_before s.machine (spaces_kept s.checkpoints) s.numbers c.in-Ok.q c.self.invariant.0 free.0) refl saved),
       c.self.invariant.1,
-      above_more s.breakpoints c.in-Ok.q free.0 c.self.invariant.2,
+      breaks_kept s.machine c.save_process.new.machine s.breakpoints (λ q gone. ap (λ m. get m q) (sym saved.1.processes) ∙ gone) c.self.invariant.2,
     )
 
 pub returns-in-Ok-save_process-clause-gives : goal.returns-in-Ok-save_process-clause-gives
@@ -45,23 +48,23 @@ returns-in-Ok-save_process-clause-gives c =
     let s = c.self.inside in
     let p = c.args.p in
     let name = c.args.name.now in
-    let next = sym c.next_number.ensures.next ∙ c.in-Ok.ensures.1 in
+    let next = sym (next_is s.machine s.checkpoints s.breakpoints s.numbers c.self.invariant.0 c.least.result c.least.ensures) ∙ c.in-Ok.ensures.1 in
     let saved = subst (λ t. SavesSpace c.args.p c.in-Ok.q c.self.inside.machine c.save_process.new.machine (Ok t)) c.in-Ok-save_process.ensures.kept.0 c.in-Ok-save_process.ensures.saves in
     subst (λ (s : InSession). GivesChange (on_process c.args.p (checkpoint_row c.args.p c.args.name.now) (registry_of s.state)) s.state (Saved c.args.p c.in-Ok-save_process.told c.in-Ok.q)
-    (shown_state c.save_process.new.machine c.save_process.new.checkpoints c.self.inside.breakpoints c.in-Ok.q)) c.self.view_is
+    (shown_state c.save_process.new.machine c.save_process.new.checkpoints c.self.inside.breakpoints)) c.self.view_is
     (subst (λ t. GivesChange (on_process c.args.p (checkpoint_row c.args.p c.args.name.now) (registry_of (shown_state c.self.inside.machine c.self.inside.checkpoints c.self.inside.breakpoints)))
     (shown_state c.self.inside.machine c.self.inside.checkpoints c.self.inside.breakpoints) (Saved c.args.p t c.in-Ok.q)
-    (shown_state c.save_process.new.machine c.save_process.new.checkpoints c.self.inside.breakpoints c.in-Ok.q)) (sym c.in-Ok-save_process.ensures.kept.0)
+    (shown_state c.save_process.new.machine c.save_process.new.checkpoints c.self.inside.breakpoints)) (sym c.in-Ok-save_process.ensures.kept.0)
     (subst (λ (xs : List Kept). GivesChange (on_process c.args.p (checkpoint_row c.args.p c.args.name.now) (registry_of (shown_state c.self.inside.machine c.self.inside.checkpoints c.self.inside.breakpoints)))
     (shown_state c.self.inside.machine c.self.inside.checkpoints c.self.inside.breakpoints) (Saved c.args.p c.args.name.now c.in-Ok.q)
-    (shown_state c.save_process.new.machine xs c.self.inside.breakpoints c.in-Ok.q)) (sym c.in-Ok-save_process.ensures.kept.1)
+    (shown_state c.save_process.new.machine xs c.self.inside.breakpoints)) (sym c.in-Ok-save_process.ensures.kept.1)
     (checkpoint_saved s.machine s.checkpoints s.breakpoints p name c.in-Some.process.now (sym c.in-Some.ensures.kept)
     c.is_speculating-speculating.result c.has-taken.result
     (told_mark s.machine p c.is_speculating-speculating.result c.memory.result.now c.is_speculating-speculating.ensures.mark c.memory.ensures)
     (taken_is s.checkpoints c.as_slice.result.now name c.has-taken.result c.as_slice.ensures c.has-taken.ensures)
-    c.save_process.new.machine c.in-Ok.q c.self.invariant.0 next
-    (subst (λ o. first_refusal (checkpoint_refusals c.is_speculating-speculating.result c.has-taken.result o) ≡ None) c.next_number.ensures.next c.in-Ok.ensures.0)
-    (free_number s.drawn c.in-Ok.q next).0 saved)))
+    c.save_process.new.machine c.in-Ok.q s.numbers c.self.invariant.0 next
+    (subst (λ o. first_refusal (checkpoint_refusals c.is_speculating-speculating.result c.has-taken.result o) ≡ None) (next_is s.machine s.checkpoints s.breakpoints s.numbers c.self.invariant.0 c.least.result c.least.ensures) c.in-Ok.ensures.0)
+    (free_number s.machine (spaces_kept s.checkpoints) s.numbers c.in-Ok.q c.self.invariant.0 (taken_free s.numbers c.least.result c.in-Ok.q c.least.ensures c.in-Ok.ensures.1)).0 saved)))
 
 -- it isn't
 
@@ -72,7 +75,7 @@ invariant_of-self-in-Err-save_process c =
       subst (λ (xs : List Kept). IsSession c.save_process.new.machine (spaces_kept xs) c.self.inside.numbers) (sym c.in-Err-save_process.ensures.kept)
           (keeps.session (spaces_kept s.checkpoints) s.numbers c.self.invariant.0),
       c.self.invariant.1,
-      c.self.invariant.2,
+      breaks_kept s.machine c.save_process.new.machine s.breakpoints keeps.stay c.self.invariant.2,
     )
 
 pub returns-in-Err-save_process-clause-gives : goal.returns-in-Err-save_process-clause-gives
@@ -90,8 +93,8 @@ returns-in-Err-save_process-clause-gives c =
     c.is_speculating-speculating.result c.has-taken.result
     (told_mark s.machine p c.is_speculating-speculating.result c.memory.result.now c.is_speculating-speculating.ensures.mark c.memory.ensures)
     (taken_is s.checkpoints c.as_slice.result.now name c.has-taken.result c.as_slice.ensures c.has-taken.ensures)
-    c.save_process.new.machine c.in-Ok.q c.self.invariant.0 (sym c.next_number.ensures.next ∙ c.in-Ok.ensures.1)
-    (subst (λ o. first_refusal (checkpoint_refusals c.is_speculating-speculating.result c.has-taken.result o) ≡ None) c.next_number.ensures.next c.in-Ok.ensures.0)
+    c.save_process.new.machine c.in-Ok.q s.numbers c.self.invariant.0 (sym (next_is s.machine s.checkpoints s.breakpoints s.numbers c.self.invariant.0 c.least.result c.least.ensures) ∙ c.in-Ok.ensures.1)
+    (subst (λ o. first_refusal (checkpoint_refusals c.is_speculating-speculating.result c.has-taken.result o) ≡ None) (next_is s.machine s.checkpoints s.breakpoints s.numbers c.self.invariant.0 c.least.result c.least.ensures) c.in-Ok.ensures.0)
     c.in-Err-save_process.error c.in-Err-save_process.ensures.saves)))
 
 pub returns-in-Err-save_process-clause-want : goal.returns-in-Err-save_process-clause-want

@@ -4,9 +4,11 @@ use Rattle.machine_core.specs.Machine.{with_memory}
 use Rattle.report_text.specs.declared.answer.Answer.TheVariants.{Done}
 use Rattle.command_core.specs.State.{registry_of}
 use Rattle.command_core.specs.Sessions.{InSession}
-use Rattle.command_core.specs.Kept.{shown_state}
+use Rattle.command_core.specs.Kept.{shown_state, spaces_kept}
 use Rattle.command_core.specs.Rows.{still_row}
 use Rattle.command_core.specs.Giving.{GivesChange}
+use Rattle.command_core.proofs.Breaks.{breaks_kept}
+use Rattle.command_core.proofs.Places.{keeps_before}
 use Rattle.command_core.proofs.Rows.{gives_moved}
 use Rattle.command_core.proofs.session.Session.compact.Goals as goal
 
@@ -17,3 +19,11 @@ returns-clause-gives c =
     (shown_state (with_memory c.self.inside.machine c.compact.new.self) c.self.inside.checkpoints c.self.inside.breakpoints)) c.self.view_is
     (gives_moved s.machine (with_memory s.machine c.compact.new.self) s.checkpoints s.breakpoints
     (c.compact.ensures.state ∙ ap state_of c.memory_mut.ensures.value, c.compact.ensures.translations ∙ ap translations_of c.memory_mut.ensures.value, refl))
+
+pub invariant_of-self : goal.invariant_of-self
+invariant_of-self c =
+    let s = c.self.inside in
+    let new = with_memory s.machine c.compact.new.self in
+    let keeps = keeps_before s.machine new
+    (c.compact.ensures.state ∙ ap state_of c.memory_mut.ensures.value, c.compact.ensures.translations ∙ ap translations_of c.memory_mut.ensures.value, refl) in
+    (keeps.session (spaces_kept s.checkpoints) s.numbers c.self.invariant.0, c.self.invariant.1, breaks_kept s.machine new s.breakpoints keeps.stay c.self.invariant.2)

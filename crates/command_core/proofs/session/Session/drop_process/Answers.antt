@@ -6,12 +6,12 @@ use Rattle.ovl_io.specs.Keys.{removed_same}
 use Rattle.machine_core.specs.Machine.{Machine, spaces_of}
 use Rattle.report_text.specs.declared.answer.Answer.TheVariants.{Done}
 use Rattle.command_core.specs.State.{registry_of}
-use Rattle.command_core.specs.Sessions.{InSession, NoBreaksAbove, session_state}
+use Rattle.command_core.specs.Sessions.{AreBreaksOf, InSession, session_state}
 use Rattle.command_core.specs.Kept.{checkpoints_in, shown_state, spaces_kept}
 use Rattle.command_core.specs.Giving.{GivesChange}
 use Rattle.command_core.specs.Changes.{drop_row, on_process}
-use Rattle.command_core.proofs.Breaks.{above_removed}
-use Rattle.command_core.proofs.Dropping.{gives_dropped, keeps_dropped}
+use Rattle.command_core.proofs.Breaks.{breaks_removed}
+use Rattle.command_core.proofs.Dropping.{free_dropped, gives_dropped, left_dropped, session_dropped}
 use Rattle.command_core.proofs.Places.{free_same}
 use Rattle.command_core.proofs.Rows.{gives_found, gives_left}
 use Rattle.command_core.proofs.session.Session.drop_process.Goals as goal
@@ -23,10 +23,13 @@ drop_space-requires-clause-no_process c =
 pub invariant_of-self : goal.invariant_of-self
 invariant_of-self c =
     let s = c.self.inside in
-    let keeps = keeps_dropped s.machine c.remove.new.self c.drop_space.new.self c.args.p (ap is_some (sym c.in-Some.ensures.kept)) c.remove.ensures.removed c.drop_space.ensures.dropped in (
-      keeps.session (spaces_kept s.checkpoints) s.numbers c.self.invariant.0,
+    let there = ap is_some (sym c.in-Some.ensures.kept) in
+    let new = c.drop_space.new.self in (
+      session_dropped s.machine c.remove.new.self new c.args.p there c.remove.ensures.removed c.drop_space.ensures.dropped (spaces_kept s.checkpoints) s.numbers c.give_back.new.self
+          c.self.invariant.0 c.give_back.ensures,
       c.self.invariant.1,
-      subst (NoBreaksAbove s.drawn) (sym c.clear.ensures) (above_removed s.breakpoints c.args.p c.self.invariant.2),
+      subst (AreBreaksOf new) (sym c.clear.ensures)
+          (breaks_removed s.machine new s.breakpoints c.args.p (left_dropped s.machine c.remove.new.self new c.args.p there c.remove.ensures.removed c.drop_space.ensures.dropped) c.self.invariant.2),
     )
 
 pub returns-clause-gives : goal.returns-clause-gives
@@ -36,12 +39,12 @@ returns-clause-gives c =
     let new = c.drop_space.new.self in
     let p = c.args.p in
     let kept = checkpoints_in (spaces_of old) s.checkpoints in
-    let keeps = keeps_dropped old c.remove.new.self new p (ap is_some (sym c.in-Some.ensures.kept)) c.remove.ensures.removed c.drop_space.ensures.dropped in
+    let free = free_dropped old c.remove.new.self new p (ap is_some (sym c.in-Some.ensures.kept)) c.remove.ensures.removed c.drop_space.ensures.dropped in
     subst (λ (s : InSession). GivesChange (on_process p (drop_row p) (registry_of s.state)) s.state Done (shown_state new c.self.inside.checkpoints c.clear.new.self)) c.self.view_is
     (subst (λ (breaks : Breaks). GivesChange (on_process p (drop_row p) (registry_of (shown_state old c.self.inside.checkpoints c.self.inside.breakpoints)))
     (shown_state old c.self.inside.checkpoints c.self.inside.breakpoints) Done (shown_state new c.self.inside.checkpoints breaks))
     (sym c.clear.ensures)
-    (gives_left (on_process p (drop_row p)) old new s.checkpoints s.breakpoints (free_same old new (spaces_kept s.checkpoints) keeps.free c.self.invariant.0.free) Done
+    (gives_left (on_process p (drop_row p)) old new s.checkpoints s.breakpoints (free_same old new (spaces_kept s.checkpoints) free c.self.invariant.0.free) Done
     (remove s.breakpoints p)
     (gives_found old kept s.breakpoints p (drop_row p) c.in-Some.field-0.now Done (session_state new kept (remove s.breakpoints p)) (sym c.in-Some.ensures.kept)
     (gives_dropped old c.remove.new.self new kept s.breakpoints p c.in-Some.field-0.now c.remove.ensures.after

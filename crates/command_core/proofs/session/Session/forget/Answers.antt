@@ -12,6 +12,8 @@ use Rattle.command_core.specs.Checkpoints.{forget_row, on_checkpoint}
 use Rattle.command_core.proofs.Dropping.{gives_forgot, session_forgot}
 use Rattle.command_core.proofs.Keeping.{found_has, named_shown, none_but}
 use Rattle.command_core.proofs.Rows.{gives_unnamed}
+use Rattle.std.specs.FinMap.{get}
+use Rattle.command_core.proofs.Breaks.{breaks_kept}
 use Rattle.command_core.proofs.session.Session.forget.Goals as goal
 
 -- none has the name
@@ -50,10 +52,10 @@ pub invariant_of-self-in-Some : goal.invariant_of-self-in-Some
 invariant_of-self-in-Some c =
     let s = c.self.inside in
     let name = c.as_slice.result.now in (
-      subst (λ (xs : List Kept). IsSession c.drop_space.new.self (spaces_kept xs) s.numbers) (sym c.remove.ensures.others)
-          (session_forgot s.machine c.drop_space.new.self s.checkpoints s.breakpoints name c.in-Some.kept c.self.invariant.0 (sym c.in-Some.ensures.removed) c.drop_space.ensures.dropped),
+      subst (λ (xs : List Kept). IsSession c.drop_space.new.self (spaces_kept xs) c.give_back.new.self) (sym c.remove.ensures.others)
+          (session_forgot s.machine c.drop_space.new.self s.checkpoints s.breakpoints name c.in-Some.kept s.numbers c.self.invariant.0 (sym c.in-Some.ensures.removed) c.drop_space.ensures.dropped c.give_back.new.self c.give_back.ensures),
       c.self.invariant.1,
-      c.self.invariant.2,
+      breaks_kept s.machine c.drop_space.new.self s.breakpoints (λ q gone. ap (λ m. get m q) (sym c.drop_space.ensures.dropped.processes) ∙ gone) c.self.invariant.2,
     )
 
 pub returns-in-Some-clause-gives : goal.returns-in-Some-clause-gives
@@ -66,4 +68,4 @@ returns-in-Some-clause-gives c =
     (shown_state c.self.inside.machine c.self.inside.checkpoints c.self.inside.breakpoints) Done (shown_state c.drop_space.new.self c.remove.new.self c.self.inside.breakpoints)) c.as_slice.ensures
     (subst (λ (xs : List Kept). GivesChange (on_checkpoint c.as_slice.result.now (forget_row c.as_slice.result.now) (registry_of (shown_state c.self.inside.machine c.self.inside.checkpoints c.self.inside.breakpoints)))
     (shown_state c.self.inside.machine c.self.inside.checkpoints c.self.inside.breakpoints) Done (shown_state c.drop_space.new.self xs c.self.inside.breakpoints)) (sym c.remove.ensures.others)
-    (gives_forgot s.machine c.drop_space.new.self s.checkpoints s.breakpoints name c.in-Some.kept c.self.invariant.0 (sym c.in-Some.ensures.removed) c.drop_space.ensures.dropped)))
+    (gives_forgot s.machine c.drop_space.new.self s.checkpoints s.breakpoints name c.in-Some.kept s.numbers c.self.invariant.0 (sym c.in-Some.ensures.removed) c.drop_space.ensures.dropped)))

@@ -8,37 +8,49 @@ use Rattle.command_core.specs.Changes.{answer_of, load_row}
 use Rattle.report_text.specs.declared.answer.Answer.TheVariants.{Loaded}
 use Rattle.command_core.specs.Ample.{amply_loaded}
 use Rattle.command_core.specs.LikeLaws.{gives_as}
-use Rattle.command_core.proofs.Breaks.{above_more}
+use Rattle.command_core.proofs.Breaks.{breaks_kept, breaks_loaded}
+use Rattle.command_core.proofs.Numbers.{next_is, taken_free}
 use Rattle.command_core.proofs.Loadings.{gives_loaded, gives_other, runs_loaded, session_other}
-use Rattle.command_core.proofs.Places.{free_same, next_same, session_load}
+use Rattle.command_core.proofs.Places.{free_number, free_same, next_same, none_before, session_load}
 use Rattle.command_core.proofs.Rows.{gives_kept}
 use Rattle.command_core.proofs.Wanting.{load_keeps_all, told_keeps}
 use Rattle.command_core.proofs.session.Session.load.Goals as goal
 
--- the number that it takes is free, and is the next one
-number_of : (c : goal.In-Some) → FreeNumber c.self.inside.machine c.in-Some.p
-number_of c =
-    free_number c.self.inside.machine (spaces_kept c.self.inside.checkpoints) c.self.inside.numbers c.in-Some.p c.self.invariant.0
-    (taken_free c.self.inside.numbers c.least.result c.in-Some.p c.least.ensures c.in-Some.is)
+pub load-requires-clause-number : goal.load-requires-clause-number
+load-requires-clause-number c = ?
 
-next_of : (c : goal.In-Some) → next_number (registry_of (shown_state c.self.inside.machine c.self.inside.checkpoints c.self.inside.breakpoints)) ≡ Some c.in-Some.p
-next_of c =
-    let s = c.self.inside in
-    sym (next_is s.machine s.checkpoints s.breakpoints s.numbers c.self.invariant.0 c.least.result c.least.ensures) ∙ c.in-Some.is
+pub load-requires-clause-no_space : goal.load-requires-clause-no_space
+load-requires-clause-no_space c = ?
+
+pub load-requires-clause-no_process : goal.load-requires-clause-no_process
+load-requires-clause-no_process c = ?
+
+pub take-requires-clause-low : goal.take-requires-clause-low
+take-requires-clause-low c = ?
+
+pub take-requires-clause-free : goal.take-requires-clause-free
+take-requires-clause-free c = ?
 
 pub invariant_of-self : goal.invariant_of-self
-invariant_of-self c = ?
+invariant_of-self c =
+    let s = c.self.inside in
+    let free = free_number s.machine (spaces_kept s.checkpoints) s.numbers c.in-Some.p c.self.invariant.0 (taken_free s.numbers c.least.result c.in-Some.p c.least.ensures c.in-Some.is) in
+    let loaded = c.in-Ok-load.ensures.loads.2 in (
+      session_load s.machine c.load.new.self (spaces_kept s.checkpoints) s.numbers c.take.new.self c.in-Some.p c.args.file.now c.self.invariant.0 free.0 free.1 c.take.ensures loaded,
+      c.self.invariant.1,
+      breaks_loaded s.machine c.load.new.self s.breakpoints c.in-Some.p c.args.file.now loaded c.self.invariant.2,
+    )
 
 pub invariant_of-self-in-Err-load : goal.invariant_of-self-in-Err-load
 invariant_of-self-in-Err-load c =
     let s = c.self.inside in
-    let keeps = session_other c.args.file.now s.machine c.load.new.self [] s.breakpoints c.in-Some.p c.in-Ok.ensures.taken (sym c.in-Some.ensures.next) c.in-Err-load.error c.in-Err-load.ensures.loads in
-    (keeps.session (spaces_kept s.checkpoints) s.numbers c.self.invariant.0, c.self.invariant.1, c.self.invariant.2)
+    let keeps = session_other c.args.file.now s.machine c.load.new.self (checkpoints_in (spaces_of s.machine) s.checkpoints) s.breakpoints c.in-Some.p c.in-Ok.ensures.taken (sym (next_is s.machine s.checkpoints s.breakpoints s.numbers c.self.invariant.0 c.least.result c.least.ensures) ∙ c.in-Some.is) c.in-Err-load.error c.in-Err-load.ensures.loads in
+    (keeps.session (spaces_kept s.checkpoints) s.numbers c.self.invariant.0, c.self.invariant.1, breaks_kept s.machine c.load.new.self s.breakpoints keeps.stay c.self.invariant.2)
 
 pub returns-in-Ok-load-clause-runs : goal.returns-in-Ok-load-clause-runs
 returns-in-Ok-load-clause-runs c =
     let s = c.self.inside in
-    runs_loaded c.args.file.now s.machine c.load.new.self (checkpoints_in (spaces_of c.load.new.self) s.checkpoints) s.breakpoints c.in-Some.p c.in-Ok.ensures.taken (sym c.in-Some.ensures.next)
+    runs_loaded c.args.file.now s.machine c.load.new.self (checkpoints_in (spaces_of s.machine) s.checkpoints) s.breakpoints c.in-Some.p c.in-Ok.ensures.taken (sym (next_is s.machine s.checkpoints s.breakpoints s.numbers c.self.invariant.0 c.least.result c.least.ensures) ∙ c.in-Some.is)
     c.in-Ok-load.pages c.entry.result c.in-Ok-load.ensures.loads
 
 pub returns-in-Ok-load-clause-gives : goal.returns-in-Ok-load-clause-gives
@@ -48,11 +60,12 @@ returns-in-Ok-load-clause-gives c =
     let old = s.machine in
     let new = c.load.new.self in
     let answer = Loaded c.in-Some.p c.in-Ok-load.pages c.entry.result in
+    let free = free_number s.machine (spaces_kept s.checkpoints) s.numbers c.in-Some.p c.self.invariant.0 (taken_free s.numbers c.least.result c.in-Some.p c.least.ensures c.in-Some.is) in
     subst (λ (s : InSession). GivesChange (load_row file (registry_of s.state)) s.state (Loaded c.in-Some.p c.in-Ok-load.pages c.entry.result)
-    (shown_state c.load.new.self c.self.inside.checkpoints c.self.inside.breakpoints c.in-Some.p)) c.self.view_is
-    (gives_kept (load_row file) old new s.checkpoints s.breakpoints (next_same old new (spaces_kept s.checkpoints) s.numbers c.in-Some.p c.self.invariant.0 c.in-Some.ensures.free.0 c.in-Ok-load.ensures.loads.2.others) answer c.in-Some.p
-    (gives_loaded file old new (checkpoints_in (spaces_of old) s.checkpoints) s.breakpoints c.in-Some.p c.in-Ok.ensures.taken (sym c.in-Some.ensures.next)
-    (c.self.invariant.2 c.in-Some.p c.in-Some.ensures.free.0) c.in-Ok-load.pages c.entry.result c.in-Ok-load.ensures.loads (c.entry.ensures ∙ c.in-Ok.ensures.entry)))
+    (shown_state c.load.new.self c.self.inside.checkpoints c.self.inside.breakpoints)) c.self.view_is
+    (gives_kept (load_row file) old new s.checkpoints s.breakpoints (next_same old new (spaces_kept s.checkpoints) c.in-Some.p c.self.invariant.0.free free.0 c.in-Ok-load.ensures.loads.2.others) answer
+    (gives_loaded file old new (checkpoints_in (spaces_of old) s.checkpoints) s.breakpoints c.in-Some.p c.in-Ok.ensures.taken (sym (next_is s.machine s.checkpoints s.breakpoints s.numbers c.self.invariant.0 c.least.result c.least.ensures) ∙ c.in-Some.is)
+    (c.self.invariant.2 c.in-Some.p (none_before s.machine (spaces_kept s.checkpoints) s.numbers c.in-Some.p c.self.invariant.0 free.0)) c.in-Ok-load.pages c.entry.result c.in-Ok-load.ensures.loads (c.entry.ensures ∙ c.in-Ok.ensures.entry)))
 
 pub returns-clause-gives : goal.returns-clause-gives
 returns-clause-gives c =
@@ -62,8 +75,8 @@ returns-clause-gives c =
     let new = c.load.new.self in
     let kept = checkpoints_in (spaces_of old) s.checkpoints in
     let e = c.in-Err-load.error in
-    let keeps = session_other file old new kept s.breakpoints c.in-Some.p c.in-Ok.ensures.taken (sym c.in-Some.ensures.next) e c.in-Err-load.ensures.loads in
-    let given = gives_other file old new kept s.breakpoints c.in-Some.p c.in-Ok.ensures.taken (sym c.in-Some.ensures.next) e c.in-Err-load.ensures.loads in
+    let keeps = session_other file old new kept s.breakpoints c.in-Some.p c.in-Ok.ensures.taken (sym (next_is s.machine s.checkpoints s.breakpoints s.numbers c.self.invariant.0 c.least.result c.least.ensures) ∙ c.in-Some.is) e c.in-Err-load.ensures.loads in
+    let given = gives_other file old new kept s.breakpoints c.in-Some.p c.in-Ok.ensures.taken (sym (next_is s.machine s.checkpoints s.breakpoints s.numbers c.self.invariant.0 c.least.result c.least.ensures) ∙ c.in-Some.is) e c.in-Err-load.ensures.loads in
     subst (λ (s : InSession). GivesChange (load_row file (registry_of s.state)) s.state c.not_made.result (shown_state c.load.new.self c.self.inside.checkpoints c.self.inside.breakpoints)) c.self.view_is
     (gives_kept (load_row file) old new s.checkpoints s.breakpoints (free_same old new (spaces_kept s.checkpoints) keeps.free c.self.invariant.0.free) c.not_made.result
     (subst (λ a. GivesChange (load_row file (registry_of (shown_state c.self.inside.machine c.self.inside.checkpoints c.self.inside.breakpoints)))
@@ -73,9 +86,8 @@ returns-clause-gives c =
 
 pub returns-in-Ok-load-clause-stands : goal.returns-in-Ok-load-clause-stands
 returns-in-Ok-load-clause-stands c =
-    let drawn = c.in-Some.p in
     gives_as (load_row c.args.file.now) c.args.self.now (shown_session c.load.new.self c.self.inside.checkpoints c.self.inside.breakpoints c.self.inside.modes)
-    (Loaded drawn c.in-Ok-load.pages c.entry.result) (returns-in-Ok-load-clause-gives c)
+    (Loaded c.in-Some.p c.in-Ok-load.pages c.entry.result) (returns-in-Ok-load-clause-gives c)
 
 pub returns-clause-stands : goal.returns-clause-stands
 returns-clause-stands c =

@@ -17,16 +17,16 @@ returns-clause-session c =
     let machine = c.in_ok-new.field-0 in
     let all = wholes_start machine (record { frames = c.args.frames; quantum = c.args.quantum }) c.in_ok-new.ensures.spaces c.in_ok-new.ensures.processes c.in_ok-new.ensures.lists in
     let none = no_bases machine (record { frames = c.args.frames; quantum = c.args.quantum }) c.in_ok-new.ensures.spaces c.in_ok-new.ensures.processes in
-    ap (λ xs. shown_session c.in_ok-new.field-0 xs c.new-3.result 0 (record { frames = c.args.frames; quantum = c.args.quantum })) c.new-2.ensures
-    ∙ ap (λ (breaks : Breaks). shown_session c.in_ok-new.field-0 [] breaks 0 (record { frames = c.args.frames; quantum = c.args.quantum })) c.new-3.ensures
+    ap (λ xs. shown_session c.in_ok-new.field-0 xs c.new-3.result (record { frames = c.args.frames; quantum = c.args.quantum })) c.new-2.ensures
+    ∙ ap (λ (breaks : Breaks). shown_session c.in_ok-new.field-0 [] breaks (record { frames = c.args.frames; quantum = c.args.quantum })) c.new-3.ensures
     ∙ λ i. started (all i) (none i)
 
 pub returns-clause-stands : goal.returns-clause-stands
 returns-clause-stands c =
     let started : Wholes → State = λ w. record { wholes = w; checkpoints = []; breakpoints = empty } in
     states_same _ (fresh (record { frames = c.args.frames; quantum = c.args.quantum }))
-    (ap (λ xs. shown_state c.in_ok-new.field-0 xs c.new-3.result 0) c.new-2.ensures
-    ∙ ap (λ (breaks : Breaks). shown_state c.in_ok-new.field-0 [] breaks 0) c.new-3.ensures
+    (ap (λ xs. shown_state c.in_ok-new.field-0 xs c.new-3.result) c.new-2.ensures
+    ∙ ap (λ (breaks : Breaks). shown_state c.in_ok-new.field-0 [] breaks) c.new-3.ensures
     ∙ ap started (wholes_start c.in_ok-new.field-0 (record { frames = c.args.frames; quantum = c.args.quantum }) c.in_ok-new.ensures.spaces c.in_ok-new.ensures.processes c.in_ok-new.ensures.lists))
 
 pub invariant_of-result : goal.invariant_of-result

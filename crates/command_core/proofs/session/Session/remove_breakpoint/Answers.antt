@@ -1,23 +1,24 @@
-use Rattle.std.proofs.Common.{sym, subst}
+use Rattle.std.proofs.Common.{ap, sym, subst}
+use Rattle.std.specs.Option.{is_some}
 use Rattle.breakpoints.specs.Breakpoints.{Breaks}
 use Rattle.report_text.specs.declared.answer.Answer.TheVariants.{Done}
 use Rattle.command_core.specs.State.{registry_of}
-use Rattle.command_core.specs.Sessions.{InSession, NoBreaksAbove}
+use Rattle.command_core.specs.Sessions.{AreBreaksOf, InSession}
 use Rattle.command_core.specs.Kept.{shown_state, spaces_kept}
 use Rattle.command_core.specs.Debugging.{unbreak_row}
 use Rattle.command_core.specs.Changes.{on_process}
 use Rattle.command_core.specs.Giving.{GivesChange}
-use Rattle.command_core.proofs.Breaks.{above_without, was_drawn}
+use Rattle.command_core.proofs.Breaks.{breaks_without}
 use Rattle.command_core.proofs.Debugging.{break_removed}
 use Rattle.command_core.proofs.session.Session.remove_breakpoint.Goals as goal
 
 pub invariant_of-self : goal.invariant_of-self
 invariant_of-self c =
     let s = c.self.inside in
-    let there = was_drawn s.machine (spaces_kept s.checkpoints) s.numbers c.args.p c.in-Some.field-0.now c.self.invariant.0 (sym c.in-Some.ensures.kept) in (
+    let there = ap is_some (sym c.in-Some.ensures.kept) in (
       c.self.invariant.0,
       c.self.invariant.1,
-      subst (NoBreaksAbove s.drawn) (sym c.remove.ensures) (above_without s.breakpoints c.args.p c.args.address there c.self.invariant.2),
+      subst (AreBreaksOf s.machine) (sym c.remove.ensures) (breaks_without s.machine s.breakpoints c.args.p c.args.address there c.self.invariant.2),
     )
 
 pub returns-clause-gives : goal.returns-clause-gives

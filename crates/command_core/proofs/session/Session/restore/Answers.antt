@@ -15,6 +15,7 @@ use Rattle.command_core.proofs.Keeping.{found_has}
 use Rattle.command_core.proofs.Places.{not_free}
 use Rattle.command_core.proofs.Savings.{free_unmarked, not_restored, restore_unnamed, restored_done, session_of_restored, told_mark}
 use Rattle.command_core.proofs.Wanting.{copy_keeps_all, told_keeps}
+use Rattle.command_core.proofs.Breaks.{breaks_kept, breaks_more}
 use Rattle.command_core.proofs.session.Session.restore.Goals as goal
 
 pub returns-in-None-get-clause-gives : goal.returns-in-None-get-clause-gives
@@ -56,7 +57,7 @@ invariant_of-self-2 c =
       session_of_restored s.machine c.restore_process.new.machine (spaces_kept s.checkpoints) s.numbers c.args.p x c.self.invariant.0 (ap is_some (sym c.in-Some.ensures.kept))
           (found_has c.as_slice.result.now (HasNoProcess s.machine) s.checkpoints x c.self.invariant.0.free (sym c.in-Some-get.ensures)) copied,
       c.self.invariant.1,
-      c.self.invariant.2,
+      breaks_more s.machine c.restore_process.new.machine s.breakpoints c.args.p (ap is_some copied.1.adopted) copied.1.others c.self.invariant.2,
     )
 
 pub returns-clause-gives : goal.returns-clause-gives
@@ -66,7 +67,7 @@ returns-clause-gives c =
     let copied = subst (λ (y : declared.Process). CopiesProcess (Some c.args.p) x.space c.args.p y s.machine c.restore_process.new.machine (Ok tt)) c.process-in-Some-get.ensures c.in-Ok.ensures in
     subst (λ (s : InSession). GivesChange (on_process c.args.p (restore_row c.args.p c.args.name.now) (registry_of s.state)) s.state Done
     (shown_state c.restore_process.new.machine c.self.inside.checkpoints c.self.inside.breakpoints)) c.self.view_is
-    (restored_done s.machine s.checkpoints s.breakpoints c.args.p c.args.name.now c.in-Some.field-0.now (sym c.in-Some.ensures.kept) c.restore_process.new.machine x c.self.invariant.0
+    (restored_done s.machine s.checkpoints s.breakpoints c.args.p c.args.name.now c.in-Some.field-0.now (sym c.in-Some.ensures.kept) c.restore_process.new.machine x s.numbers c.self.invariant.0
     (sym c.if-is_speculating.false ∙ told_mark s.machine c.args.p c.is_speculating.result c.memory.result.now c.is_speculating.ensures.mark c.memory.ensures)
     (sym (c.in-Some-get.ensures ∙ ap (λ n. kept_named n s.checkpoints) c.as_slice.ensures)) copied)
 
@@ -76,7 +77,7 @@ pub invariant_of-self : goal.invariant_of-self
 invariant_of-self c =
     let s = c.self.inside in
     let keeps = copy_keeps c.in-Some-get.kept.now.space c.args.p s.machine c.restore_process.new.machine c.in-Err.error c.in-Err.ensures in
-    (keeps.session (spaces_kept s.checkpoints) s.numbers c.self.invariant.0, c.self.invariant.1, c.self.invariant.2)
+    (keeps.session (spaces_kept s.checkpoints) s.numbers c.self.invariant.0, c.self.invariant.1, breaks_kept s.machine c.restore_process.new.machine s.breakpoints keeps.stay c.self.invariant.2)
 
 pub returns-in-Err-clause-gives : goal.returns-in-Err-clause-gives
 returns-in-Err-clause-gives c =
@@ -86,7 +87,7 @@ returns-in-Err-clause-gives c =
     (shown_state c.restore_process.new.machine c.self.inside.checkpoints c.self.inside.breakpoints)) c.self.view_is
     (subst (λ a. GivesChange (on_process c.args.p (restore_row c.args.p c.args.name.now) (registry_of (shown_state c.self.inside.machine c.self.inside.checkpoints c.self.inside.breakpoints)))
     (shown_state c.self.inside.machine c.self.inside.checkpoints c.self.inside.breakpoints) a (shown_state c.restore_process.new.machine c.self.inside.checkpoints c.self.inside.breakpoints)) (sym c.not_made.ensures)
-    (not_restored s.machine s.checkpoints s.breakpoints c.args.p c.args.name.now c.in-Some.field-0.now (sym c.in-Some.ensures.kept) c.restore_process.new.machine x c.self.invariant.0
+    (not_restored s.machine s.checkpoints s.breakpoints c.args.p c.args.name.now c.in-Some.field-0.now (sym c.in-Some.ensures.kept) c.restore_process.new.machine x s.numbers c.self.invariant.0
     (sym c.if-is_speculating.false ∙ told_mark s.machine c.args.p c.is_speculating.result c.memory.result.now c.is_speculating.ensures.mark c.memory.ensures)
     (sym (c.in-Some-get.ensures ∙ ap (λ n. kept_named n s.checkpoints) c.as_slice.ensures)) c.in-Err.error c.in-Err.ensures))
 

@@ -1,6 +1,8 @@
 use Rattle.std.proofs.Common.{subst}
 use Rattle.command_core.specs.Sessions.{InSession, KeepsRest}
-use Rattle.command_core.specs.Kept.{shown_session}
+use Rattle.command_core.specs.Kept.{shown_session, spaces_kept}
+use Rattle.command_core.proofs.Breaks.{breaks_kept}
+use Rattle.command_core.proofs.Places.{session_kept, stay_kept}
 use Rattle.command_core.specs.Standing.{TurnsAs, ends_run, speaks}
 use Rattle.command_core.proofs.Standing.{ends_as, rest_kept, speaks_as}
 use Rattle.command_core.proofs.session.Session.turn_line.Goals as goal
@@ -31,3 +33,12 @@ returns-clause-others c =
     let s = c.self.inside in
     subst (λ (old : InSession). KeepsRest old (shown_session done.new.machine s.checkpoints s.breakpoints s.modes)) c.self.view_is
     (rest_kept s.machine done.new.machine s.checkpoints s.breakpoints s.modes s.numbers c.self.invariant.0 done.ensures.free)
+
+pub invariant_of-self : goal.invariant_of-self
+invariant_of-self c =
+    let s = c.self.inside in
+    let done = c.turns_to_line in (
+      session_kept s.machine done.new.machine (spaces_kept s.checkpoints) s.numbers c.self.invariant.0 done.ensures.kept done.ensures.free,
+      c.self.invariant.1,
+      breaks_kept s.machine done.new.machine s.breakpoints (stay_kept s.machine done.new.machine done.ensures.kept) c.self.invariant.2,
+    )
