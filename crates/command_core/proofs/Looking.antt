@@ -161,6 +161,10 @@ module _ (spaces : State) (xs : List Kept) (index : ℕ) where
   kept_shown x view is name space pages =
       (checkpoint_in spaces x, shown_at (Some x) is, record { name = name; space = space; pages = pages ∙ sym (pages_are spaces x.space) })
 
+one_more : (q : ℕ) (qs : List ℕ) → AllByRecursion (λ r. eqb q r ≡ false) qs → IsDistinct eqb qs → IsDistinct eqb (q ∷ qs)
+unfolding IsDistinct
+one_more q qs apart once = (apart, once)
+
 -- Its place is below the number of spaces: the spaces of checkpoints are so many numbers, each once.
 numbers_within : (machine : Machine) (qs : List ℕ) → ((q : ℕ) → has_space machine q ≡ true → is_number q ≡ true) → AllByRecursion (HasNoProcess machine) qs
     → (q : ℕ) → list_any (eqb q) qs ≡ true → (1 ≤ q) × (q ≤ LAST_SPACE)
@@ -179,7 +183,7 @@ pub kept_within : (machine : Machine) (xs : List Kept) (numbers : List (List ℕ
 kept_within machine xs numbers index x is found =
     let inside = slice_get_within xs index x found in
     let same = length-map xs (λ (y : Kept). y.space) in
-    let count = length-le_from_distinct_below (0 ∷ spaces_kept xs) (LAST_SPACE + 1) (with_zero is.once) below in
+    let count = length-le_from_distinct_below (0 ∷ spaces_kept xs) (LAST_SPACE + 1) (one_more 0 (spaces_kept xs) (not_zero (spaces_kept xs) is.free) is.once) below in
     omega (arith, inside, count, same)
   where
     among : (q : ℕ) → list_any (eqb q) (spaces_kept xs) ≡ true → (1 ≤ q) × (q ≤ LAST_SPACE)
@@ -199,9 +203,6 @@ kept_within machine xs numbers index x is found =
         zero_apart : (q : ℕ) → is_number q ≡ true → eqb 0 q ≡ false
         zero_apart q number = let low : 1 ≤ q = grind (arith, nat_tests, number) in ne_eqb 0 q (λ same. omega (arith, low, same))
 
-    with_zero : IsDistinct eqb (spaces_kept xs) → IsDistinct eqb (0 ∷ spaces_kept xs)
-    unfolding IsDistinct
-    with_zero once = (not_zero (spaces_kept xs) is.free, once)
 
 -- The counts, by those of the memory.
 pub counts_are : (machine : Machine) (memory : TranslatedView) (used most own hits misses : ℕ) → memory ≡ machine.memory → used ≡ units (books (state_of memory))

@@ -382,13 +382,17 @@ module _ (old : Machine) (memory : TranslatedView) (p : ℕ) (others : (q : ℕ)
       (λ other. others_by q other (get old.processes q))
       ∙ sym (processes_at old q))
 
+-- what a number of a space is
+pub number_bounds : (n : ℕ) → is_number n ≡ true → (0 < n) × (n ≤ LAST_SPACE)
+number_bounds n number = (grind (arith, nat_tests, number), grind (arith, nat_tests, number))
+
 -- a number that is free is one of a space that isn't there
 pub free_number : (machine : Machine) (spaces : List ℕ) (numbers : List (List ℕ)) (n : ℕ) → IsSession machine spaces numbers → is_in numbers n ≡ true
-    → (has_space machine n ≡ false) × (is_number n ≡ true) × (n ≤ LAST_SPACE)
+    → (has_space machine n ≡ false) × (is_number n ≡ true) × (0 < n) × (n ≤ LAST_SPACE)
 free_number machine spaces numbers n is free = by_tests (is_number n) refl (has_space machine n) refl (sym (is.are_free n) ∙ free)
   where
     by_tests : (b : Bool) → is_number n ≡ b → (c : Bool) → has_space machine n ≡ c → (b && not c) ≡ true
-        → (has_space machine n ≡ false) × (is_number n ≡ true) × (n ≤ LAST_SPACE)
-    by_tests true number false absent h = (absent, number, grind (arith, nat_tests, number))
+        → (has_space machine n ≡ false) × (is_number n ≡ true) × (0 < n) × (n ≤ LAST_SPACE)
+    by_tests true number false absent h = (absent, number, (number_bounds n number).0, (number_bounds n number).1)
     by_tests true number true absent h = cc
     by_tests false number c absent h = cc

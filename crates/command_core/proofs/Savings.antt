@@ -50,9 +50,9 @@ put_is machine spaces numbers x is free =
     λ i. record { registers = x.regs; state = x.state; memory = memory_of (spaces_of machine) x.space; kept = kept i }
 
 -- a restore translates nothing
-restored_unseen : {old new : Machine} {from p : ℕ} {process : Process} → wholes new ≡ with_process_copy (Some p) from p process (wholes old) → (q : ℕ)
+restored_unseen : (old new : Machine) (from p : ℕ) (process : Process) → wholes new ≡ with_process_copy (Some p) from p process (wholes old) → (q : ℕ)
     → HasNone q (lists_of old) → HasNone q (lists_of new)
-restored_unseen {old = old} {p = p} after q none = subst (HasNone q) (sym (ap (λ (w : Wholes). w.translations) after)) (none_flushed q p (lists_of old) none)
+restored_unseen old new from p process after q none = subst (HasNone q) (sym (ap (λ (w : Wholes). w.translations) after)) (none_flushed q p (lists_of old) none)
 
 -- whether one is found, as it is kept and as it is shown
 pub found_shown : (spaces : Machine) (name : List ℕ) (xs : List Kept) → is_some (checkpoint_named name (checkpoints_in (spaces_of spaces) xs)) ≡ is_some (kept_named name xs)
@@ -166,7 +166,7 @@ module _ (old : Machine) (xs : List Kept) (breaks : Breaks) (p : ℕ) (name : Li
         let free = found_has name (HasNoProcess old) xs x is.free found in
         let put = put_is old (spaces_kept xs) numbers x is free in
         gives_kept (on_process p (restore_row p name)) old new xs breaks
-        (free_same old new (spaces_kept xs) (free_stays p old new copied.others (ap is_some there) (λ q other. restored_unseen copied.after q)) is.free) Done
+        (free_same old new (spaces_kept xs) (free_stays p old new copied.others (ap is_some there) (λ q other. restored_unseen old new _ _ _ copied.after q)) is.free) Done
         (gives_by false (Some x) Done after marked found
         (row_accepted row before after refl enough
         (states_same after (accepts row before).after
@@ -222,5 +222,5 @@ session_of_restored old new spaces numbers p x is there free (enough, copied) =
           (λ other. ap (λ (y : SpaceState). y.speculating) (others.spaces q other) ∙ is.kept q ∙ sym (ap saved_of (others.processes q other)));
       free = each (HasNoProcess old) (HasNoProcess new) spaces (λ q h. (others.there q (other_than q h.1) ∙ h.0, others.processes q (other_than q h.1) ∙ h.1)) is.free;
       once = is.once;
-      unseen = λ q none. restored_unseen copied.after q (is.unseen q (before q none));
+      unseen = λ q none. restored_unseen old new _ _ _ copied.after q (is.unseen q (before q none));
     }

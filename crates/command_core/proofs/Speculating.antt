@@ -1,5 +1,5 @@
 use Rattle.std.proofs.Common.{◌≡◌, ℕ, ◌/◌, Bool, true, false, cond, sym, ap, subst, ◌∙◌, refl, Option, Some, None}
-use Rattle.std.specs.Prelude.{[], ◌∷◌, not, Ok, Err}
+use Rattle.std.specs.Prelude.{◌&&◌, [], ◌∷◌, not, Ok, Err}
 use Rattle.std.specs.Option.{is_some, option_map, option_map_or, unwrap_or}
 use Rattle.std.specs.Ordering.{nat_cmp}
 use Rattle.std.specs.FinMap.{FinMap, get, insert}
@@ -36,7 +36,7 @@ use Rattle.command_core.specs.State.{Registry}
 use Rattle.command_core.specs.Sessions.{HasNoProcess, KeepsSession}
 use Rattle.command_core.specs.Rows.{Row, first_refusal, flushed_by, ledger_by, plain_row, refused_if, refused_row}
 use Rattle.command_core.specs.Giving.{MachineGives}
-use Rattle.command_core.specs.Refusals.{by_not_speculating, by_speculating}
+use Rattle.command_core.specs.Refusals.{by_speculating}
 use Rattle.command_core.specs.ProcessChanges.{ChangesProcess, after_commit, after_discard, after_speculate, leaves, process_row, promotion_answer, speculation_answer}
 use Rattle.command_core.proofs.Keeping.{each}
 use Rattle.command_core.proofs.Places.{marked_is, none_flushed_by, none_is, not_free, processes_put}
@@ -171,8 +171,8 @@ module _ (p : ℕ) (process : declared.Process) (old : Machine) (memory : Transl
   abbrev ends : ProcessChange → Registry → Row
   ends change = process_row p change before
 
-  end_refusal : (mark : Bool) → is_marked old p ≡ mark → first_refusal (by_not_speculating (is_speculating before) ∷ []) ≡ first_refusal (by_not_speculating mark ∷ [])
-  end_refusal mark is = ap (λ b. first_refusal (by_not_speculating b ∷ [])) (speculates mark is)
+  end_refusal : (mark : Bool) → is_marked old p ≡ mark → first_refusal (refused_if (not (is_speculating before)) NotSpeculating ∷ []) ≡ first_refusal (refused_if (not mark) NotSpeculating ∷ [])
+  end_refusal mark is = ap (λ b. first_refusal (refused_if (not b) NotSpeculating ∷ [])) (speculates mark is)
 
   abbrev forgotten : declared.Process
   forgotten = record { regs = process.regs; state = process.state; saved = None }

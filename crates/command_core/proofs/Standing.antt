@@ -100,7 +100,6 @@ turns_as old new running after r took rest state stands =
       after_stands old new state left rest stands like,
       refl,
       refl,
-      refl,
       subst (λ (bs : Breaks). TakesTurn bs state.wholes running r left after) stands.breakpoints altered,
     )
 
@@ -122,7 +121,6 @@ speaks_as old new running after line (text, left) rest state stands =
       after_stands old new state new.state.wholes rest stands (like_itself new.state.wholes),
       refl,
       refl,
-      refl,
       subst (λ (bs : Breaks). Speaks bs b running line new.state.wholes after) stands.breakpoints (
         same_text breaks a b running stands.wholes ∙ text,
         like_chain (left_of breaks b running).after (left_of breaks a running).after (left_of breaks new.state.wholes after).after
@@ -138,7 +136,6 @@ ends_as old new running after (stop, found, said) rest state stands =
     let breaks = old.state.breakpoints in (
       with_wholes new.state.wholes state,
       after_stands old new state new.state.wholes rest stands (like_itself new.state.wholes),
-      refl,
       refl,
       refl,
       subst (λ (bs : Breaks). EndsRun bs b running new.state.wholes after) stands.breakpoints (

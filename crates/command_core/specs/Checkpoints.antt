@@ -1,4 +1,4 @@
-use Rattle.std.specs.Prelude.{◌≡◌, ℕ, nat_eq, Bool, true, false, List, [], ◌∷◌, ◌++◌, Option, Some, None, if◌then◌else◌, Result, Ok, Err}
+use Rattle.std.specs.Prelude.{◌≡◌, ℕ, nat_eq, not, Bool, true, false, List, [], ◌∷◌, ◌++◌, Option, Some, None, if◌then◌else◌, Result, Ok, Err}
 use Rattle.std.specs.Option.{is_some, option_map_or}
 use Rattle.std.specs.FinMap.{empty}
 use Rattle.space_maps.specs.Spaces.{space_in}
@@ -12,10 +12,10 @@ use Rattle.machine_core.specs.Process.{Process, is_speculating}
 use Rattle.machine_core.specs.Machine.{IsDropped, Machine, StaysBut, Wholes, has_space, spaces_of, wholes}
 use Rattle.report_text.specs.declared.answer.Answer.TheVariants.{Saved}
 use Rattle.report_text.specs.declared.answer.Code.{Code}
-use Rattle.report_text.specs.declared.answer.Code.TheVariants.{NoCheckpoint}
+use Rattle.report_text.specs.declared.answer.Code.TheVariants.{NameTaken, NoCheckpoint}
 use Rattle.command_core.specs.State.{Checkpoint, Registry, next_number, process_of, whole_of}
-use Rattle.command_core.specs.Rows.{Row, TakesLast, ledger_by, plain_row, refused_row}
-use Rattle.command_core.specs.Refusals.{by_name_taken, by_no_checkpoint, by_numbers_used, by_speculating, number_in}
+use Rattle.command_core.specs.Rows.{Row, TakesLast, ledger_by, plain_row, refused_if, refused_row}
+use Rattle.command_core.specs.Refusals.{by_numbers_used, by_speculating, number_in}
 use Rattle.command_core.specs.Copies.{CopyEnds}
 use Rattle.command_core.specs.ProcessChanges.{leaves}
 
@@ -37,7 +37,7 @@ saves n name process registry = record registry {
 }
 
 abbrev pub checkpoint_refusals : Bool → Bool → Option ℕ → List (Option Code)
-checkpoint_refusals speculating found next = by_speculating speculating ∷ by_name_taken found ∷ by_numbers_used next ∷ []
+checkpoint_refusals speculating found next = by_speculating speculating ∷ refused_if found NameTaken ∷ by_numbers_used next ∷ []
 
 -- `checkpoint`: the whole is kept, the last of all, with a copy of the process's pages in the ledger
 abbrev pub checkpoint_under : Option ℕ → ℕ → List ℕ → Process → Registry → Row
@@ -47,9 +47,6 @@ checkpoint_under next p name process registry =
 
 abbrev pub checkpoint_row : ℕ → List ℕ → Process → Registry → Row
 checkpoint_row p name process registry = checkpoint_under (next_number registry) p name process registry
-
-abbrev pub restore_refusals : Bool → Bool → List (Option Code)
-restore_refusals speculating found = by_speculating speculating ∷ by_no_checkpoint found ∷ []
 
 -- the pages of a checkpoint that was found come in the place of a process's own
 abbrev pub restored_pages : ℕ → Option Checkpoint → Event
@@ -61,7 +58,7 @@ restored p found registry = option_map_or (λ x. leaves p (process_of x.whole) r
 
 abbrev pub restores : ℕ → Bool → Option Checkpoint → Registry → Row
 restores p speculating found registry =
-    record (plain_row true (Some p) (restore_refusals speculating (is_some found)) (restored_pages p found) (restored p found registry)) { memory = TakesLast }
+    record (plain_row true (Some p) (by_speculating speculating ∷ refused_if (not (is_some found)) NoCheckpoint ∷ []) (restored_pages p found) (restored p found registry)) { memory = TakesLast }
 
 -- `restore`: the process is what was kept, with a copy of the checkpoint's pages in the ledger in the place of its own
 abbrev pub restore_row : ℕ → List ℕ → Process → Registry → Row

@@ -108,10 +108,6 @@ told wants_memory changed = record { text = answer_text changed.answer; after = 
 abbrev pub text_printed : {S : Type 0} → Bool → List ℕ → S → Performed S
 text_printed wants_memory text state = record { text = text; after = state; wants_memory = wants_memory }
 
--- nothing more
-abbrev pub no_more : {S : Type 0} → S → Performed S
-no_more state = text_printed false [] state
-
 -- one thing after another
 abbrev pub then_performed : {S : Type 0} → Performed S → (S → Performed S) → Performed S
 then_performed first next = record {
@@ -240,7 +236,7 @@ module _ {S : Type 0} (by : Rules S) where
   -- what follows the load of an `exec`: the turns of its process, where it made one
   abbrev pub exec_turns : ℕ → Answer → S → Performed S
   exec_turns turns (Loaded p pages entry) = by.turns (begun_alone p turns)
-  exec_turns turns other = no_more
+  exec_turns turns other = text_printed false []
 
   abbrev pub exec_done : List ℕ → ℕ → S → Performed S
   exec_done file turns state =

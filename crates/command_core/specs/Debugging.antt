@@ -43,15 +43,11 @@ poke_answer (memory.Full needed limit) = Full needed limit
 abbrev pub with_breaks : Breaks → Registry → Registry
 with_breaks breakpoints registry = record registry { breakpoints = breakpoints }
 
--- a breakpoint that is there takes no memory
-abbrev pub break_memory : Bool → MemoryTaken
-break_memory there = if there then TakesNone else TakesLast
-
--- `break`: the process has one more, unless it is there
+-- `break`: the process has one more, unless it is there, which takes no memory
 abbrev pub break_row : ℕ → ℕ → Process → Registry → Row
 break_row p address process registry =
     record (plain_row false None [] event.Other (with_breaks (with_break registry.breakpoints p address) registry))
-    { memory = break_memory (has_break registry.breakpoints p address) }
+    { memory = if has_break registry.breakpoints p address then TakesNone else TakesLast }
 
 -- `unbreak`: it hasn't it any more
 abbrev pub unbreak_row : ℕ → ℕ → Process → Registry → Row

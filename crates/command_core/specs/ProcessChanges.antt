@@ -1,4 +1,4 @@
-use Rattle.std.specs.Prelude.{ℕ, ◌/◌, true, false, [], ◌∷◌, nat_lt, if◌then◌else◌, Some, None}
+use Rattle.std.specs.Prelude.{ℕ, ◌/◌, not, true, false, [], ◌∷◌, nat_lt, if◌then◌else◌, Some, None}
 use Rattle.std.specs.Option.{option_map_or}
 use Rattle.std.specs.List.{fold, range_with_len}
 use Rattle.std.specs.FinMap.{insert, remove}
@@ -21,9 +21,9 @@ use Rattle.report_text.specs.declared.answer.Code.TheVariants.{Speculating, NotS
 use Rattle.command_core.specs.declared.process_changes.ProcessChange.{ProcessChange}
 use Rattle.command_core.specs.declared.process_changes.ProcessChange.TheVariants.{Speculate, Commit, Discard, Promote, PromoteAll, Map, Unmap, Set}
 use Rattle.command_core.specs.State.{Registry, process_of, whole_of}
-use Rattle.command_core.specs.Rows.{Row, TakesLast, plain_row, refused_row}
+use Rattle.command_core.specs.Rows.{Row, TakesLast, plain_row, refused_if, refused_row}
 use Rattle.command_core.specs.Giving.{MachineGives}
-use Rattle.command_core.specs.Refusals.{map_refusals, unmap_refusals, by_ended, by_not_speculating, by_speculating, by_unmapped}
+use Rattle.command_core.specs.Refusals.{map_refusals, unmap_refusals, by_ended, by_speculating, has_page}
 
 -- What speculation, promotion, pages that are mapped or given up, and a register that is set make of a process that is there.
 
@@ -67,11 +67,11 @@ abbrev pub process_row : ℕ → ProcessChange → Process → Registry → Row
 process_row p Speculate process registry =
     plain_row true (Some p) (by_ended process.state ∷ by_speculating (is_speculating process) ∷ []) (event.Settle p) (leaves p (after_speculate process) registry)
 process_row p Commit process registry =
-    plain_row false (Some p) (by_not_speculating (is_speculating process) ∷ []) (event.Commit p) (leaves p (after_commit process) registry)
+    plain_row false (Some p) (refused_if (not (is_speculating process)) NotSpeculating ∷ []) (event.Commit p) (leaves p (after_commit process) registry)
 process_row p Discard process registry =
     option_map_or (λ whole. plain_row false (Some p) [] (event.Discard p) (leaves p (after_discard whole) registry)) process.kept (refused_row NotSpeculating registry)
 process_row p (Promote address) process registry =
-    plain_row true (Some p) (by_speculating (is_speculating process) ∷ by_unmapped address process.memory ∷ []) (event.SettlePage p (address / PAGE_BYTES)) registry
+    plain_row true (Some p) (by_speculating (is_speculating process) ∷ refused_if (not (has_page process.memory (address / PAGE_BYTES))) (Unmapped address) ∷ []) (event.SettlePage p (address / PAGE_BYTES)) registry
 process_row p PromoteAll process registry = plain_row true (Some p) (by_speculating (is_speculating process) ∷ []) (event.Settle p) registry
 process_row p (Map address n perms) process registry =
     record (plain_row false (Some p) (map_refusals address n (is_speculating process) process.memory) (event.Map p (address / PAGE_BYTES) n)

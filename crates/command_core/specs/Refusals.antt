@@ -6,7 +6,7 @@ use Rattle.ovl_io.specs.Memory.{Memory}
 use Rattle.ovl_io.specs.declared.process_state.ProcessState.{ProcessState}
 use Rattle.machine_core.specs.Process.{runs}
 use Rattle.report_text.specs.declared.answer.Code.{Code}
-use Rattle.report_text.specs.declared.answer.Code.TheVariants.{Ended, Speculating, NotSpeculating, NoCheckpoint, NameTaken, Unmapped, Mapped, NumbersUsed, Outside}
+use Rattle.report_text.specs.declared.answer.Code.TheVariants.{Ended, Speculating, Unmapped, Mapped, NumbersUsed, Outside}
 use Rattle.command_core.specs.Rows.{refused_if}
 
 -- Why changes are refused, a line each.
@@ -15,23 +15,9 @@ use Rattle.command_core.specs.Rows.{refused_if}
 abbrev pub by_ended : ProcessState → Option Code
 by_ended state = refused_if (not (runs state)) Ended
 
--- it is speculating, or it isn't
+-- it is speculating
 abbrev pub by_speculating : Bool → Option Code
 by_speculating mark = refused_if mark Speculating
-
-abbrev pub by_not_speculating : Bool → Option Code
-by_not_speculating mark = refused_if (not mark) NotSpeculating
-
--- no checkpoint has the name, or one has
-abbrev pub by_no_checkpoint : Bool → Option Code
-by_no_checkpoint found = refused_if (not found) NoCheckpoint
-
-abbrev pub by_name_taken : Bool → Option Code
-by_name_taken found = refused_if found NameTaken
-
--- the page of an address isn't there
-abbrev pub by_unmapped : ℕ → Memory → Option Code
-by_unmapped address memory = refused_if (not (is_some (get memory (address / PAGE_BYTES)))) (Unmapped address)
 
 -- pages from an address on aren't whole pages of user addresses, or are more than a space may have
 abbrev pub lie_outside : ℕ → ℕ → Bool
@@ -39,9 +25,6 @@ lie_outside address n = not (address % PAGE_BYTES == 0) || nat_lt ADDRESS_END (a
 
 abbrev pub are_too_many : Memory → ℕ → Bool
 are_too_many memory n = nat_lt MOST_SPACE_PAGES (len memory + n)
-
-abbrev pub by_outside : Bool → Option Code
-by_outside outside = refused_if outside Outside
 
 -- the lowest of the n pages from one on of which something holds
 abbrev pub lowest : (ℕ → Bool) → ℕ → ℕ → Option ℕ
@@ -63,7 +46,7 @@ by_missing address n memory = option_map (λ page. Unmapped (PAGE_BYTES * page))
 
 -- why pages aren't mapped, and why they aren't given up
 abbrev pub place_refusals : Bool → Bool → Option Code → List (Option Code)
-place_refusals speculating outside page = by_speculating speculating ∷ by_outside outside ∷ page ∷ []
+place_refusals speculating outside page = by_speculating speculating ∷ refused_if outside Outside ∷ page ∷ []
 
 abbrev pub map_refusals : ℕ → ℕ → Bool → Memory → List (Option Code)
 map_refusals address n speculating memory =

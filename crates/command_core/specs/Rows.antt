@@ -9,6 +9,7 @@ use Rattle.machine_core.specs.Machine.{Wholes, unit_limit}
 use Rattle.report_text.specs.declared.answer.Answer.{Answer}
 use Rattle.report_text.specs.declared.answer.Answer.TheVariants.{Done, Refused, Full}
 use Rattle.report_text.specs.declared.answer.Code.{Code}
+pub use Rattle.elf_loader.specs.Accepted.{first_refusal, refused_if}
 use Rattle.command_core.specs.State.{Registry, State, with_registry}
 
 -- Changes of the copying machine, as rows, and the one rule of what a row comes to.
@@ -49,16 +50,6 @@ still_row = plain_row false None [] Other
 
 abbrev pub refused_row : Code → Registry → Row
 refused_row code = plain_row false None (Some code ∷ []) Other
-
--- a refusal with its condition
-abbrev pub refused_if : Bool → Code → Option Code
-refused_if holds code = if holds then Some code else None
-
--- the first refusal that holds
-abbrev pub first_refusal : List (Option Code) → Option Code
-first_refusal [] = None
-first_refusal (None ∷ refusals) = first_refusal refusals
-first_refusal (Some code ∷ refusals) = Some code
 
 -- the ledger after an event, how many units that needs, and whether there aren't as many
 unfoldable pub ledger_by : Event → Ledger → Ledger

@@ -11,6 +11,7 @@ use Rattle.command_core.specs.Giving.{GivesChange}
 use Rattle.command_core.specs.Checkpoints.{forget_row, on_checkpoint}
 use Rattle.command_core.proofs.Dropping.{gives_forgot, session_forgot}
 use Rattle.command_core.proofs.Keeping.{found_has, named_shown, none_but}
+use Rattle.command_core.proofs.Places.{number_bounds}
 use Rattle.command_core.proofs.Rows.{gives_unnamed}
 use Rattle.std.specs.FinMap.{get}
 use Rattle.command_core.proofs.Breaks.{breaks_kept}
@@ -47,6 +48,11 @@ drop_space-requires-clause-space c =
 pub drop_space-requires-clause-no_process : goal.drop_space-requires-clause-no_process
 drop_space-requires-clause-no_process c =
     (found_has c.as_slice.result.now _ c.self.inside.checkpoints c.in-Some.kept c.self.invariant.0.free (sym c.in-Some.ensures.removed)).1
+
+pub give_back-requires : goal.give_back-requires
+give_back-requires c =
+    let free = found_has c.as_slice.result.now _ c.self.inside.checkpoints c.in-Some.kept c.self.invariant.0.free (sym c.in-Some.ensures.removed) in
+    (number_bounds c.in-Some.kept.space (c.self.invariant.0.in_range c.in-Some.kept.space free.0)).1
 
 pub invariant_of-self-in-Some : goal.invariant_of-self-in-Some
 invariant_of-self-in-Some c =

@@ -5,31 +5,44 @@ use Rattle.command_core.specs.Sessions.{InSession}
 use Rattle.command_core.specs.Kept.{checkpoints_in, shown_session, shown_state, spaces_kept}
 use Rattle.command_core.specs.Giving.{GivesChange}
 use Rattle.command_core.specs.Changes.{answer_of, load_row}
-use Rattle.report_text.specs.declared.answer.Answer.TheVariants.{Loaded}
+use Rattle.report_text.specs.declared.answer.Answer.TheVariants.{Loaded, Refused}
+use Rattle.report_text.specs.declared.answer.Code.TheVariants.{NumbersUsed}
 use Rattle.command_core.specs.Ample.{amply_loaded}
 use Rattle.command_core.specs.LikeLaws.{gives_as}
 use Rattle.command_core.proofs.Breaks.{breaks_kept, breaks_loaded}
 use Rattle.command_core.proofs.Numbers.{next_is, taken_free}
-use Rattle.command_core.proofs.Loadings.{gives_loaded, gives_other, runs_loaded, session_other}
+use Rattle.command_core.proofs.Loadings.{comes_used, gives_loaded, gives_other, runs_loaded, session_other}
 use Rattle.command_core.proofs.Places.{free_number, free_same, next_same, none_before, session_load}
 use Rattle.command_core.proofs.Rows.{gives_kept}
 use Rattle.command_core.proofs.Wanting.{load_keeps_all, told_keeps}
 use Rattle.command_core.proofs.session.Session.load.Goals as goal
 
 pub load-requires-clause-number : goal.load-requires-clause-number
-load-requires-clause-number c = ?
+load-requires-clause-number c =
+    let s = c.self.inside in
+    let free = free_number s.machine (spaces_kept s.checkpoints) s.numbers c.in-Some.p c.self.invariant.0 (taken_free s.numbers c.least.result c.in-Some.p c.least.ensures c.in-Some.is) in
+    (free.2, free.3)
 
 pub load-requires-clause-no_space : goal.load-requires-clause-no_space
-load-requires-clause-no_space c = ?
+load-requires-clause-no_space c =
+    let s = c.self.inside in
+    let free = free_number s.machine (spaces_kept s.checkpoints) s.numbers c.in-Some.p c.self.invariant.0 (taken_free s.numbers c.least.result c.in-Some.p c.least.ensures c.in-Some.is) in
+    free.0
 
 pub load-requires-clause-no_process : goal.load-requires-clause-no_process
-load-requires-clause-no_process c = ?
+load-requires-clause-no_process c =
+    let s = c.self.inside in
+    let free = free_number s.machine (spaces_kept s.checkpoints) s.numbers c.in-Some.p c.self.invariant.0 (taken_free s.numbers c.least.result c.in-Some.p c.least.ensures c.in-Some.is) in
+    none_before s.machine (spaces_kept s.checkpoints) s.numbers c.in-Some.p c.self.invariant.0 free.0
 
 pub take-requires-clause-low : goal.take-requires-clause-low
-take-requires-clause-low c = ?
+take-requires-clause-low c =
+    let s = c.self.inside in
+    let free = free_number s.machine (spaces_kept s.checkpoints) s.numbers c.in-Some.p c.self.invariant.0 (taken_free s.numbers c.least.result c.in-Some.p c.least.ensures c.in-Some.is) in
+    free.3
 
 pub take-requires-clause-free : goal.take-requires-clause-free
-take-requires-clause-free c = ?
+take-requires-clause-free c = taken_free c.self.inside.numbers c.least.result c.in-Some.p c.least.ensures c.in-Some.is
 
 pub invariant_of-self : goal.invariant_of-self
 invariant_of-self c =
@@ -106,3 +119,17 @@ returns-clause-want c =
     told_keeps c.args.self.now (shown_session s.machine s.checkpoints s.breakpoints s.modes) (shown_session new s.checkpoints s.breakpoints s.modes)
     c.not_made.result (answer_of c.in-Err-load.error) c.self.view_is c.not_made.ensures
     (load_keeps_all s.machine new s.checkpoints s.breakpoints s.modes c.in-Some.p c.args.file.now c.in-Err-load.error c.in-Err-load.ensures.loads)
+
+-- no number is free
+
+pub returns-in-None-clause-gives : goal.returns-in-None-clause-gives
+returns-in-None-clause-gives c =
+    let s = c.self.inside in
+    let file = c.args.file.now in
+    subst (λ (s : InSession). GivesChange (load_row file (registry_of s.state)) s.state (Refused NumbersUsed) s.state) c.self.view_is
+    (comes_used file (shown_state s.machine s.checkpoints s.breakpoints) c.in-Ok.ensures.taken
+    (sym (next_is s.machine s.checkpoints s.breakpoints s.numbers c.self.invariant.0 c.least.result c.least.ensures) ∙ c.in-None.is))
+
+pub returns-in-None-clause-stands : goal.returns-in-None-clause-stands
+returns-in-None-clause-stands c =
+    gives_as (load_row c.args.file.now) c.args.self.now c.args.self.now (Refused NumbersUsed) (returns-in-None-clause-gives c)
