@@ -4,17 +4,16 @@ use Rattle.std.proofs.lemmas.Bool.Decides.{nat_tests}
 use Rattle.sizes.specs.declared.TheConstants.{PAGE_END}
 use Rattle.ledger.specs.Ledger.{Holding, holding_at, is_alone}
 use Rattle.ledger.specs.Changes.{has_own}
-use Rattle.ledger.specs.Events.{Commit, ledger_after}
 use Rattle.space_maps.specs.Laws.{changed_there}
 use Rattle.space_maps.specs.Spaces.{page_in, put_page, altered_page}
 use Rattle.space_ledger.specs.Calls.{IsNextOwn}
 use Rattle.overlay_pages.specs.State.{PageState, State, books, held_page, seen_page}
 use Rattle.overlay_pages.specs.Changes.{committed}
-use Rattle.promotion.specs.Settled.{HasCommittedAlone, alone_in, with_committed}
+use Rattle.promotion.specs.Settled.{HasCommittedAlone, alone_in, with_committed, without_alone}
 use Rattle.overlay_memory.specs.ApartLaws.{ArePagesApart}
 use Rattle.overlay_memory.specs.Joined.{IsBare}
 use Rattle.overlay_memory.specs.PageLaws.{held_there, own_is, own_there}
-use Rattle.promotion.specs.FateFolds.{commit_turns, none_own, same_altered, widened}
+use Rattle.promotion.specs.FateFolds.{alone_turns, none_own, same_altered, widened}
 use Rattle.promotion.specs.Altered.{HaveAltered, WasThere, alone_now, are_settled, none_yet, one_more, own_now, said_again, still, was_there}
 use Rattle.promotion.specs.Walks.{at_first, come_past, come_to, next_done, next_kept, not_yet, so_far}
 
@@ -84,8 +83,8 @@ pub committed_all : (old now : State) (space from : ℕ) → IsBare old space �
 committed_all old now space from plain h none = record {
   settled = are_settled test (alone_in old space) (alone_in old space) old now space whole plain
       (λ r e. and_right (has_own (books old) space r) (is_alone (books old) space r) e) bare;
-  ledger = same_altered (alone_in old space) (alone_in old space) (books old) (books now) (ledger_after (Commit space) (books old)) space
-      (widened test (alone_in old space) (alone_in old space) (books old) (books now) space whole.ledger wide) (commit_turns (books old) space) (λ r e. e);
+  ledger = same_altered (alone_in old space) (alone_in old space) (books old) (books now) (without_alone space (books old)) space
+      (widened test (alone_in old space) (alone_in old space) (books old) (books now) space whole.ledger wide) (alone_turns (books old) space) (λ r e. e);
 }
   where
     test : ℕ → Bool
