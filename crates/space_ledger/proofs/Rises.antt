@@ -1,6 +1,6 @@
 use Rattle.space_ledger.proofs.Common.{◌≡◌, ℕ, ◌+◌, ◌-◌, ◌≤◌, Bool, true, false, cond, nat_eq, not, ◌&&◌, List, [], ◌∷◌, length, Some, IsSome, get, option_map, refl, option_and_then, sym, ap, subst, ◌∙◌, arith}
 use Rattle.space_ledger.proofs.Pages.{AreLines}
-use Rattle.space_ledger.proofs.Views.{AreOriginsApart, IsApart, are, by_test, is_alone, class, units, map_from, with_lines, page_in, page_of, space_in, joined_same, Store, ledger_after, class_rises, store_nothing, two_rises, units_store, books_page, books_there, origin_of, LedgerView, PageView, holding_of, ledger_of, lines_of, overlay_at}
+use Rattle.space_ledger.proofs.Views.{AreOriginsApart, HasFramesApart, are, by_test, is_alone, class, units, map_from, with_lines, page_in, page_of, space_in, joined_same, Store, ledger_after, class_rises, store_nothing, two_rises, units_store, books_page, books_there, origin_of, LedgerView, PageView, holding_of, ledger_of, lines_of, overlay_at}
 use Rattle.overlay_bits.specs.Lines as bits
 use Rattle.space_ledger.proofs.Seen.{some_is}
 
@@ -18,7 +18,7 @@ pub record Rises (v : LedgerView) (s p : ℕ) (lines : List ℕ) (mark : Bool) (
       → units (ledger_after (Store mark s ((p, lines) ∷ ((other, more) ∷ []))) (ledger_of v)) ≡ units (ledger_after (Store mark s ((other, more) ∷ [])) (ledger_of v)) + rise
 
 -- the pages of a space have origins of their own, but for 0, as they name frames of their own
-origins_apart : (v : LedgerView) (s : ℕ) → IsApart v.zero_frame (space_in v s) → AreOriginsApart (ledger_of v) s
+origins_apart : (v : LedgerView) (s : ℕ) → HasFramesApart v.zero_frame (space_in v s) → AreOriginsApart (ledger_of v) s
 origins_apart v s apart p q x y at_p at_q same some =
     map_from (holding_of v.zero_frame) (page_in v s p) x (sym (books_page holding_of v s p) ∙ at_p) (λ a there_a is_a.
     map_from (holding_of v.zero_frame) (page_in v s q) y (sym (books_page holding_of v s q) ∙ at_q) (λ b there_b is_b.
@@ -38,7 +38,7 @@ origins_apart v s apart p q x y at_p at_q same some =
         let is : f + 1 ≡ g + 1 = sym (ap (λ d. cond d 0 (f + 1)) e) ∙ same ∙ ap (λ d. cond d 0 (g + 1)) k in
         (omega (arith, is), λ z. let no = sym (are f v.zero_frame z) ∙ e in cc)
 
-pub rises : (v : LedgerView) (s p : ℕ) (lines own : List ℕ) (mark alone : Bool) (rise : ℕ) → IsApart v.zero_frame (space_in v s) → IsSome (page_in v s p) → own ≡ lines_of (overlay_at v s p) → alone ≡ is_alone (ledger_of v) s p
+pub rises : (v : LedgerView) (s p : ℕ) (lines own : List ℕ) (mark alone : Bool) (rise : ℕ) → HasFramesApart v.zero_frame (space_in v s) → IsSome (page_in v s p) → own ≡ lines_of (overlay_at v s p) → alone ≡ is_alone (ledger_of v) s p
     → AreLines own → AreLines lines → rise ≡ cond (not mark && alone) 0 (class (length (bits.with_lines own lines)) - class (length own)) → Rises v s p lines mark rise
 rises v s p lines own mark alone rise apart there own_is alone_is are_own are_lines rise_is =
     record {
