@@ -566,10 +566,11 @@ impl OverlayMemory {
         self.cache.flush(space);
     }
 
-    /// Whether a space is marked as speculating.
+    /// Whether a space is marked as speculating. Where it isn't, each of its pages has at most 31 own lines.
     #[inline]
     pub fn is_speculating(&self, space: u16) -> bool
         ensures mark { result ≡ (space_in (state_of self.now) space).speculating }
+        ensures small { result ≡ false → NoneLarge (books (state_of self.now)) space }
         ensures joined { IsJoined self.now.pages }
     {
         self.pages.is_speculating(space)

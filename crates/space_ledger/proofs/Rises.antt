@@ -1,8 +1,9 @@
-use Rattle.space_ledger.proofs.Common.{◌≡◌, ℕ, ◌+◌, ◌-◌, ◌≤◌, Bool, true, false, cond, nat_eq, not, ◌&&◌, List, [], ◌∷◌, length, Some, IsSome, get, option_map, refl, option_and_then, sym, ap, subst, ◌∙◌, arith}
+use Rattle.space_ledger.proofs.Common.{◌≡◌, ℕ, ◌+◌, ◌-◌, ◌≤◌, Bool, false, cond, nat_eq, not, ◌&&◌, List, [], ◌∷◌, length, Some, IsSome, get, option_map, option_and_then, sym, ap, subst, ◌∙◌, arith}
 use Rattle.space_ledger.proofs.Pages.{AreLines}
-use Rattle.space_ledger.proofs.Views.{AreOriginsApart, HasFramesApart, are, by_test, is_alone, class, units, map_from, with_lines, page_in, page_of, space_in, joined_same, Store, ledger_after, class_rises, store_nothing, two_rises, units_store, books_page, books_there, origin_of, LedgerView, PageView, holding_of, ledger_of, lines_of, overlay_at}
+use Rattle.space_ledger.proofs.Views.{AreOriginsApart, HasFramesApart, by_test, is_alone, class, units, map_from, with_lines, page_in, page_of, space_in, joined_same, Store, ledger_after, class_rises, store_nothing, two_rises, units_store, books_page, books_there, LedgerView, PageView, holding_of, ledger_of, lines_of, overlay_at}
 use Rattle.overlay_bits.specs.Lines as bits
 use Rattle.space_ledger.proofs.Seen.{some_is}
+use Rattle.space_ledger.specs.ViewLaws.{frames_of}
 
 -- By how much a store rises.
 
@@ -22,21 +23,11 @@ origins_apart : (v : LedgerView) (s : ℕ) → HasFramesApart v.zero_frame (spac
 origins_apart v s apart p q x y at_p at_q same some =
     map_from (holding_of v.zero_frame) (page_in v s p) x (sym (books_page holding_of v s p) ∙ at_p) (λ a there_a is_a.
     map_from (holding_of v.zero_frame) (page_in v s q) y (sym (books_page holding_of v s q) ∙ at_q) (λ b there_b is_b.
-    let frames = by_zero a.entry.frame b.entry.frame (nat_eq a.entry.frame v.zero_frame) refl (nat_eq b.entry.frame v.zero_frame) refl
-    (ap (λ h. h.origin) is_a ∙ same ∙ sym (ap (λ h. h.origin) is_b)) (ap (λ h. nat_eq h.origin 0) is_a ∙ some) in
+    let frames = frames_of v.zero_frame a.entry.frame b.entry.frame (ap (λ h. h.origin) is_a ∙ same ∙ sym (ap (λ h. h.origin) is_b)) (ap (λ h. nat_eq h.origin 0) is_a ∙ some) in
     (apart false false p q a.entry.frame (named p a there_a) (named q b there_b ∙ ap Some (sym frames.0)) frames.1).1))
   where
     named : (r : ℕ) (z : PageView) → page_in v s r ≡ Some z → option_map (λ (w : PageView). w.entry.frame) (get (space_in v s).pages r) ≡ Some z.entry.frame
     named r z there = ap (option_map (λ (w : PageView). w.entry.frame)) (sym (page_of v s r) ∙ there)
-
-    by_zero : (f g : ℕ) (b : Bool) → nat_eq f v.zero_frame ≡ b → (c : Bool) → nat_eq g v.zero_frame ≡ c → origin_of v.zero_frame f ≡ origin_of v.zero_frame g
-        → nat_eq (origin_of v.zero_frame f) 0 ≡ false → (f ≡ g) × (f ≡ v.zero_frame → ⊥)
-    by_zero f g true e c k same some = let no = sym (ap (λ d. nat_eq (cond d 0 (f + 1)) 0) e) ∙ some in cc
-    by_zero f g false e true k same some =
-        let no : f + 1 ≡ 0 = sym (ap (λ d. cond d 0 (f + 1)) e) ∙ same ∙ ap (λ d. cond d 0 (g + 1)) k in absurd (omega (arith, no))
-    by_zero f g false e false k same some =
-        let is : f + 1 ≡ g + 1 = sym (ap (λ d. cond d 0 (f + 1)) e) ∙ same ∙ ap (λ d. cond d 0 (g + 1)) k in
-        (omega (arith, is), λ z. let no = sym (are f v.zero_frame z) ∙ e in cc)
 
 pub rises : (v : LedgerView) (s p : ℕ) (lines own : List ℕ) (mark alone : Bool) (rise : ℕ) → HasFramesApart v.zero_frame (space_in v s) → IsSome (page_in v s p) → own ≡ lines_of (overlay_at v s p) → alone ≡ is_alone (ledger_of v) s p
     → AreLines own → AreLines lines → rise ≡ cond (not mark && alone) 0 (class (length (bits.with_lines own lines)) - class (length own)) → Rises v s p lines mark rise
