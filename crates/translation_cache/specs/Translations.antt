@@ -115,3 +115,7 @@ cached_with line c = record { perms = c.perms; frame = c.frame; bits = with_line
 -- the entry of a page has an own line more, where it is there
 abbrev pub with_bit : ℕ → ℕ → ℕ → Translations Cached → Translations Cached
 with_bit space page line t = updated (cached_with line) space page t
+
+-- the entry of a page holds something else, where it is there
+abbrev pub with_cached : ℕ → ℕ → Cached → Translations Cached → Translations Cached
+with_cached space page c t = updated (λ _. c) space page t

@@ -128,6 +128,19 @@ impl Entries {
         }
     }
 
+    /// Puts something in the place of what the entry of a page holds, where it is there.
+    pub(crate) fn replace(&mut self, space: u16, page: u64, held: Cached)
+        ensures { self.new ≡ changed (λ _. held) space page self.old }
+    {
+        match self.place(space, page) {
+            Some(at) => {
+                let entry = &mut self.list.as_mut_slice()[at];
+                entry.held = held;
+            }
+            None => {}
+        }
+    }
+
     /// Removes the entries of a space.
     pub(crate) fn flush(&mut self, space: u16)
         ensures { self.new ≡ without_space space self.old }
