@@ -3,7 +3,7 @@ use Rattle.std.specs.List.Retain.{RetainsInTurn}
 use Rattle.std.proofs.Math.ListN.{replicate}
 use Rattle.std.proofs.lemmas.List.{get_or-replicate, get_or_default, length-replicate, same_lists, set-get_or}
 use Rattle.translation_cache.specs.Translations.{Entry, Translations, changed, entered, entry_of, flushed, found, found_in, looked, looked_by, no_translations, raised, raised_by, set_of, updated, with_hits, with_misses, with_set, without_space}
-use Rattle.translation_cache.specs.declared.TheConstants.{SETS}
+use Rattle.translation_cache.specs.declared.TheConstants.{SETS, SET_ENTRIES}
 
 -- What a change of one list is to all of them.
 
