@@ -23,7 +23,7 @@ use Rattle.number_maps.specs.Keys.{by_key}
 
 -- Laws: pages with at most 31 own lines.
 
-few_not_large : (n : ℕ) → n ≤ 31 → nat_le 32 n ≡ false
+pub few_not_large : (n : ℕ) → n ≤ 31 → nat_le 32 n ≡ false
 few_not_large n few = by_test (nat_le 32 n) (λ large. absurd (grind (arith, nat_tests))) (λ small. small)
 
 -- whether a page is large, by how many own lines it has

@@ -13,14 +13,14 @@ use Rattle.overlay_memory.proofs.memory.OverlayMemory.store.Goals as goal
 pub invariant_of-self : goal.invariant_of-self
 invariant_of-self c = (
   stored_translated c.self.inside.pages c.store_line-came.new.pages c.args.space c.args.address c.args.bytes.now (result_at c.args.address c.store_line-came.result) c.store_line-came.new.cache
-      c.store_line-came.ensures.stores c.store_line-came.ensures.held c.self.invariant.0.apart,
+      c.store_line-came.ensures.stores c.store_line-came.ensures.held c.self.invariant.0.apart c.self.invariant.0.small,
   c.store_line-came.ensures.fronts,
 )
 
 pub invariant_of-self-2 : goal.invariant_of-self-2
 invariant_of-self-2 c = (
   stored_translated c.self.inside.pages c.write_pages.new.pages c.args.space c.args.address c.args.bytes.now c.write_pages.result c.write_pages.new.cache
-      c.write_pages.ensures.stores c.write_pages.ensures.held c.self.invariant.0.apart,
+      c.write_pages.ensures.stores c.write_pages.ensures.held c.self.invariant.0.apart c.self.invariant.0.small,
   none_known _ _ _ c.clear.ensures,
 )
 
