@@ -1,6 +1,7 @@
-use Rattle.std.specs.Prelude.{◌≡◌, ℕ, ◌+◌, ◌<◌, ◌≤◌, ◌&&◌, ◌||◌, ◌⊎◌, Bool, true, false, nat_le, [], length, Option, Some, None, refl, IfSome}
+use Rattle.std.specs.Prelude.{◌≡◌, ℕ, ◌+◌, ◌<◌, ◌≤◌, ◌&&◌, ◌||◌, ◌⊎◌, Bool, true, false, nat_le, List, [], length, Option, Some, None, refl, IfSome}
 use Rattle.std.proofs.Common.{sym, ap, subst, ◌∙◌, arith, inl, inr}
 use Rattle.std.proofs.lemmas.Bool.Decides.{nat_tests}
+use Rattle.std.specs.Option.{option_map}
 use Rattle.sizes.specs.declared.TheConstants.{PAGE_END}
 use Rattle.ledger.specs.Ledger.{Holding, holding_at, is_alone}
 use Rattle.ledger.specs.Changes.{has_own, is_large}
@@ -18,6 +19,7 @@ use Rattle.overlay_pages.specs.ViewLaws.{state_books, state_frames}
 use Rattle.overlay_memory.specs.ApartLaws.{ArePagesApart}
 use Rattle.overlay_memory.specs.Joined.{IsBare}
 use Rattle.overlay_memory.specs.PageLaws.{held_there, own_is, own_there}
+use Rattle.overlay_memory.specs.SmallLaws.{large_is}
 use Rattle.promotion.specs.Settled.{CommitsPage, CommitsWhere, HasCommittedPages, alone_in, alone_or_large_in}
 use Rattle.promotion.specs.FateLaws.{alike_altered}
 use Rattle.promotion.specs.FateFolds.{after_commit, bare_small, none_own, widened}
@@ -157,3 +159,27 @@ large_room v space page fits large x there =
   where
     at : (n : ℕ) → nat_le 32 n ≡ true → 32 ≤ n
     at n e = grind (arith, nat_tests)
+
+-- whether it has, by how many there are
+pub large_by : (v : State) (space page : ℕ) (own : List ℕ) (n : ℕ) → option_map (λ (x : PageState). x.own) (page_in v space page) ≡ Some own → n ≡ length own
+    → 32 ≤ n → is_large (books v) space page ≡ true
+large_by v space page own n e count many = large_is v space page own n e count ∙ at
+  where
+    at : nat_le 32 n ≡ true
+    at = grind (arith, nat_tests)
+
+pub small_by : (v : State) (space page : ℕ) (own : List ℕ) (n : ℕ) → option_map (λ (x : PageState). x.own) (page_in v space page) ≡ Some own → n ≡ length own
+    → n < 32 → is_large (books v) space page ≡ false
+small_by v space page own n e count few = large_is v space page own n e count ∙ at
+  where
+    at : nat_le 32 n ≡ false
+    at = grind (arith, nat_tests)
+
+pub copies_page : (v w : State) (space page : ℕ) → is_alone (books v) space page ≡ false → is_large (books v) space page ≡ true
+    → IfSome (page_in v space page) (λ x. IsPlaced v w space page (λ frame. copied frame x)) → CommitsPage v w space page
+copies_page v w space page shared large placed =
+    subst (λ b. CommitsWhere b (is_large (books v) space page) v w space page) (sym shared) (subst (λ c. CommitsWhere false c v w space page) (sym large) placed)
+
+pub keeps_page : (v : State) (space page : ℕ) → is_alone (books v) space page ≡ false → is_large (books v) space page ≡ false → CommitsPage v v space page
+keeps_page v space page shared small =
+    subst (λ b. CommitsWhere b (is_large (books v) space page) v v space page) (sym shared) (subst (λ c. CommitsWhere false c v v space page) (sym small) refl)

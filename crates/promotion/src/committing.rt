@@ -11,8 +11,8 @@ ghost use Rattle.promotion.specs.Settled.{CommitsPage, HasCommittedPages};
 
 use overlay_memory::OverlayMemory;
 
-/// So many own lines take as many units as a frame.
-const LARGE: u32 = 32;
+/// As many own lines as make a segment as large as a frame.
+const LARGE_LINES: u32 = 32;
 
 // A page with own lines gets them into its frame where it is alone, and a new frame with its lines where it isn't, and has 32 of
 // them or more. The units become no more.
@@ -26,7 +26,7 @@ fn commit_or_copy(mem: &mut OverlayMemory, space: u16, page: u64)
     let own = mem.lines_of(space, page).len();
     if mem.is_alone(space, page) {
         mem.commit_page(space, page);
-    } else if own >= LARGE {
+    } else if own >= LARGE_LINES {
         mem.copy_commit_page(space, page);
     }
 }
