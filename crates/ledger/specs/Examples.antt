@@ -18,8 +18,8 @@ abbrev pub Needs : List Event → ℕ → Type 0
 Needs events count = units (all_after events empty) ≡ count
 
 -- and to so many own lines
-abbrev pub Comes : List Event → ℕ → ℕ → Type 0
-Comes events count lines = Needs events count × (own_lines (all_after events empty) ≡ lines)
+abbrev pub ComesTo : List Event → ℕ → ℕ → Type 0
+ComesTo events count lines = Needs events count × (own_lines (all_after events empty) ≡ lines)
 
 -- a load of 17 pages: page 16, which is stored, and the stack
 abbrev loads : ℕ → Event
@@ -190,15 +190,15 @@ half_committed = half_speculated ++ (Commit 1 ∷ [])
 abbrev half_forked : List Event
 half_forked = half_committed ++ (Copy 1 3 ∷ [])
 
-pub units_half_speculated : Comes half_speculated 48 32
+pub units_half_speculated : ComesTo half_speculated 48 32
 unfolding class frame_for with_lines touched touched_between lines_on_page
 units_half_speculated = (units_are half_speculated ∙ refl, lines_are half_speculated ∙ refl)
 
-pub units_half_committed : Comes half_committed 48 0
+pub units_half_committed : ComesTo half_committed 48 0
 unfolding class frame_for with_lines touched touched_between lines_on_page
 units_half_committed = (units_are half_committed ∙ refl, lines_are half_committed ∙ refl)
 
-pub units_half_forked : Comes half_forked 48 0
+pub units_half_forked : ComesTo half_forked 48 0
 unfolding class frame_for with_lines touched touched_between lines_on_page
 units_half_forked = (units_are half_forked ∙ refl, lines_are half_forked ∙ refl)
 
@@ -213,15 +213,15 @@ with_32_lines = with_31_lines ++ (stores 1 133056 1 ∷ [])
 abbrev with_64_lines : List Event
 with_64_lines = with_32_lines ++ (stores 1 133120 2048 ∷ [])
 
-pub units_of_31_lines : Comes with_31_lines 40 31
+pub units_of_31_lines : ComesTo with_31_lines 40 31
 unfolding class frame_for with_lines touched touched_between lines_on_page
 units_of_31_lines = (units_are with_31_lines ∙ refl, lines_are with_31_lines ∙ refl)
 
-pub units_of_32_lines : Comes with_32_lines 48 0
+pub units_of_32_lines : ComesTo with_32_lines 48 0
 unfolding class frame_for with_lines touched touched_between lines_on_page
 units_of_32_lines = (units_are with_32_lines ∙ refl, lines_are with_32_lines ∙ refl)
 
-pub units_of_64_lines : Comes with_64_lines 48 0
+pub units_of_64_lines : ComesTo with_64_lines 48 0
 unfolding class frame_for with_lines touched touched_between lines_on_page
 units_of_64_lines = (units_are with_64_lines ∙ refl, lines_are with_64_lines ∙ refl)
 
@@ -229,7 +229,7 @@ units_of_64_lines = (units_are with_64_lines ∙ refl, lines_are with_64_lines �
 abbrev with_30_and_2_lines : List Event
 with_30_and_2_lines = loads 1 ∷ Map 1 32 1 ∷ stores 1 131072 1920 ∷ stores 1 133052 8 ∷ []
 
-pub units_of_30_and_2_lines : Comes with_30_and_2_lines 48 0
+pub units_of_30_and_2_lines : ComesTo with_30_and_2_lines 48 0
 unfolding class frame_for with_lines touched touched_between lines_on_page
 units_of_30_and_2_lines = (units_are with_30_and_2_lines ∙ refl, lines_are with_30_and_2_lines ∙ refl)
 
@@ -246,19 +246,19 @@ half_of_alone = loads 1 ∷ stores 1 67584 2048 ∷ []
 abbrev half_speculating : List Event
 half_speculating = loads 1 ∷ Map 1 32 1 ∷ stores_speculating 1 131072 2048 ∷ []
 
-pub units_half_of_zero : Comes half_of_zero 48 0
+pub units_half_of_zero : ComesTo half_of_zero 48 0
 unfolding class frame_for with_lines touched touched_between lines_on_page
 units_half_of_zero = (units_are half_of_zero ∙ refl, lines_are half_of_zero ∙ refl)
 
-pub units_half_of_shared : Comes half_of_shared 48 0
+pub units_half_of_shared : ComesTo half_of_shared 48 0
 unfolding class frame_for with_lines touched touched_between lines_on_page
 units_half_of_shared = (units_are half_of_shared ∙ refl, lines_are half_of_shared ∙ refl)
 
-pub units_half_of_alone : Comes half_of_alone 32 0
+pub units_half_of_alone : ComesTo half_of_alone 32 0
 unfolding class frame_for with_lines touched touched_between lines_on_page
 units_half_of_alone = (units_are half_of_alone ∙ refl, lines_are half_of_alone ∙ refl)
 
-pub units_half_speculating : Comes half_speculating 48 32
+pub units_half_speculating : ComesTo half_speculating 48 32
 unfolding class frame_for with_lines touched touched_between lines_on_page
 units_half_speculating = (units_are half_speculating ∙ refl, lines_are half_speculating ∙ refl)
 
@@ -278,15 +278,15 @@ one_settled = loads 1 ∷ Map 1 32 2 ∷ stores 1 133120 4032 ∷ []
 abbrev none_settled : List Event
 none_settled = loads 1 ∷ Map 1 32 2 ∷ stores 1 133184 3968 ∷ []
 
-pub units_both_settled : Comes both_settled 64 0
+pub units_both_settled : ComesTo both_settled 64 0
 unfolding class frame_for with_lines touched touched_between lines_on_page
 units_both_settled = (units_are both_settled ∙ refl, lines_are both_settled ∙ refl)
 
-pub units_one_settled : Comes one_settled 56 31
+pub units_one_settled : ComesTo one_settled 56 31
 unfolding class frame_for with_lines touched touched_between lines_on_page
 units_one_settled = (units_are one_settled ∙ refl, lines_are one_settled ∙ refl)
 
-pub units_none_settled : Comes none_settled 48 62
+pub units_none_settled : ComesTo none_settled 48 62
 unfolding class frame_for with_lines touched touched_between lines_on_page
 units_none_settled = (units_are none_settled ∙ refl, lines_are none_settled ∙ refl)
 
@@ -300,10 +300,10 @@ origins_both_settled = (holding_is both_settled 1 32 ∙ refl, holding_is both_s
 abbrev alone_with_line : List Event
 alone_with_line = loads 1 ∷ Copy 1 2 ∷ stores 1 67584 1 ∷ Drop 2 ∷ stores 1 65536 4096 ∷ []
 
-pub units_alone_with_line : Comes alone_with_line 33 1
+pub units_alone_with_line : ComesTo alone_with_line 33 1
 unfolding class frame_for with_lines touched touched_between lines_on_page
 units_alone_with_line = (units_are alone_with_line ∙ refl, lines_are alone_with_line ∙ refl)
 
-pub units_alone_committed : Comes (alone_with_line ++ (Commit 1 ∷ [])) 32 0
+pub units_alone_committed : ComesTo (alone_with_line ++ (Commit 1 ∷ [])) 32 0
 unfolding class frame_for with_lines touched touched_between lines_on_page
 units_alone_committed = (units_are (alone_with_line ++ (Commit 1 ∷ [])) ∙ refl, lines_are (alone_with_line ++ (Commit 1 ∷ [])) ∙ refl)

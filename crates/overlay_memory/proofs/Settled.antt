@@ -1,4 +1,4 @@
-use Rattle.std.proofs.Common.{◌≡◌, ℕ, ◌+◌, ◌<◌, ◌≤◌, Bool, true, false, cond, not, ◌&&◌, nat_eq, List, [], ◌∷◌, length, Option, Some, None, is_some, refl, sym, ap, subst, ◌∙◌, arith}
+use Rattle.std.proofs.Common.{◌≡◌, ℕ, ◌+◌, ◌<◌, ◌≤◌, Bool, true, false, cond, not, ◌&&◌, List, [], ◌∷◌, length, Option, Some, None, is_some, refl, sym, ap, subst, ◌∙◌, arith}
 use Rattle.std.specs.Prelude.{IfSome, IsSome, nat_le}
 use Rattle.std.proofs.lemmas.Bool.{and_parts}
 use Rattle.std.proofs.lemmas.Bool.Decides.{nat_tests}
@@ -7,24 +7,24 @@ use Rattle.std.specs.FinMap.{get}
 use Rattle.ledger.specs.Alike.{AreAlike}
 use Rattle.ledger.specs.AlikeLaws.{alike_altered, alike_itself}
 use Rattle.ledger.specs.AloneLaws.{arent, unused_without}
-use Rattle.ledger.specs.Changes.{is_large, joined, settled, with_lines, without_own}
+use Rattle.ledger.specs.Changes.{is_large, joined, settled, without_own}
 use Rattle.ledger.specs.ClassLaws.{class_many}
 use Rattle.ledger.specs.Events.{Store, ledger_after}
 use Rattle.ledger.specs.Ledger.{Ledger, is_alone, with_page}
 use Rattle.ledger.specs.RowLaws.{settled_new}
 use Rattle.ledger.specs.StoreLaws.{joined_alone, large_there, store_joins, store_nothing, stored_settles, units_joined, units_store}
-use Rattle.ledger.specs.Units.{class, units}
+use Rattle.ledger.specs.Units.{units}
 use Rattle.overlay_pages.specs.State.{PageState, State, base_of, books, held_page, memory_of}
 use Rattle.overlay_pages.specs.Changes.{Fits, HasCopyRoom, IsPlaced, copied, writes_frame}
-use Rattle.overlay_memory.specs.PageLaws.{HasPage, has_page, held_there}
+use Rattle.overlay_memory.specs.PageLaws.{has_page, held_there}
 use Rattle.overlay_memory.specs.Pieces.{KeepsAllElse, Settles, is_to_settle}
 use Rattle.overlay_memory.specs.SmallLaws.{few_not_large, large_is}
 use Rattle.overlay_memory.specs.StateMemory.{base_beside, beside_put, beside_same, memory_kept}
 use Rattle.overlay_memory.proofs.Bringing.{joined_books}
 use Rattle.space_maps.specs.Books.{books_put_page}
-use Rattle.space_maps.specs.Options.{by_option, by_test}
+use Rattle.space_maps.specs.Options.{by_test}
 use Rattle.space_maps.specs.Laws.{page_put_beside, page_put_here}
-use Rattle.space_maps.specs.Spaces.{page_in, put_page, space_in}
+use Rattle.space_maps.specs.Spaces.{page_in, space_in}
 use Rattle.overlay_memory.specs.View.{AreTrue, cached_in, cached_page}
 use Rattle.translation_cache.specs.Bare.{bare, bare_updated}
 use Rattle.translation_cache.specs.Finding.{by_page, found_beside, found_updated}

@@ -1,9 +1,8 @@
-use Rattle.std.specs.Prelude.{◌≡◌, ℕ, ◌≤◌, Bool, true, false, nat_le, List, length, Option, Some, None, is_some, refl}
+use Rattle.std.specs.Prelude.{◌≡◌, ℕ, ◌≤◌, false, nat_le, List, length, Some}
 use Rattle.std.proofs.Common.{sym, ap, ◌∙◌, arith}
 use Rattle.std.proofs.lemmas.Bool.Decides.{nat_tests}
 use Rattle.std.specs.FinMap.{get}
 use Rattle.std.specs.Option.{option_map}
-use Rattle.ledger.specs.Alike.{AreAlike}
 use Rattle.ledger.specs.Changes.{is_large}
 use Rattle.ledger.specs.Events.{Store, ledger_after}
 use Rattle.ledger.specs.LargeLaws.{NoneLarge, few_lines, none_large_store}

@@ -1,4 +1,4 @@
-use Rattle.std.proofs.Common.{sym, ap, subst, ◌∙◌}
+use Rattle.std.proofs.Common.{sym, subst, ◌∙◌}
 use Rattle.ledger.specs.LargeLaws.{NoneLarge}
 use Rattle.overlay_pages.specs.State.{books}
 use Rattle.overlay_pages.specs.View as seen
