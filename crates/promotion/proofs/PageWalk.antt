@@ -18,13 +18,13 @@ use Rattle.overlay_pages.specs.View.{IsJoined, MemoryView, state_of}
 use Rattle.overlay_pages.specs.ViewLaws.{state_books, state_frames}
 use Rattle.overlay_memory.specs.ApartLaws.{ArePagesApart}
 use Rattle.overlay_memory.specs.Joined.{IsBare}
-use Rattle.overlay_memory.specs.PageLaws.{held_there, own_is, own_there}
+use Rattle.overlay_memory.specs.PageLaws.{held_there, own_is}
 use Rattle.overlay_memory.specs.SmallLaws.{large_is}
 use Rattle.promotion.specs.Settled.{CommitsPage, CommitsWhere, HasCommittedPages, alone_in, alone_or_large_in}
 use Rattle.promotion.specs.FateLaws.{alike_altered}
 use Rattle.promotion.specs.FateFolds.{after_commit, bare_small, none_own, widened}
-use Rattle.promotion.specs.Altered.{HaveAltered, WasThere, alone_now, are_settled, none_yet, one_more, own_now, said_again, still, was_there}
-use Rattle.promotion.specs.Walks.{at_first, come_past, come_to, next_done, next_kept, not_yet, so_far}
+use Rattle.promotion.specs.Altered.{HaveAltered, alone_now, are_settled, none_yet, one_more, own_now, said_again}
+use Rattle.promotion.specs.Walks.{ComesTo, at_first, come_past, comes_to, next_done, next_kept, so_far}
 use Rattle.promotion.proofs.CopyWalk.{copied_one}
 
 -- Pages that are alone are committed, and those that have 32 own lines or more are copied, one after the other.
@@ -52,29 +52,20 @@ module _ (old now : State) (space from page : ℕ) (apart : ArePagesApart old sp
   abbrev test : ℕ → Bool
   test = to_settle old space
 
-  reached : HaveAltered seen_page (so_far test page) (alone_in old space) old now space
-  reached = come_to seen_page test (alone_in old space) old now space from h.altered (bare_stays old space) page next
-
-  was : WasThere old space page
-  was = was_there seen_page _ _ old now space page reached (own_there now space page next.1)
-
-  unaltered : so_far test page page ≡ false
-  unaltered = not_yet test page page (omega arith)
-
-  at : page_in now space page ≡ Some was.x
-  at = still seen_page (so_far test page) (alone_in old space) old now space page was.x reached was.had unaltered
+  it : ComesTo seen_page test (alone_in old space) old now space page
+  it = comes_to seen_page test (alone_in old space) old now space from h.altered (bare_stays old space) page next
 
   -- it is to be where it is alone, or large
   own_old : has_own (books old) space page ≡ true
-  own_old = sym (own_now old now space page was.x was.had at) ∙ next.1
+  own_old = sym (own_now old now space page it.x it.had it.at) ∙ next.1
 
   same_alone : is_alone (books now) space page ≡ is_alone (books old) space page
-  same_alone = alone_now seen_page (so_far test page) old now space page was.x apart reached unaltered was.had
+  same_alone = alone_now seen_page (so_far test page) old now space page it.x apart it.reached it.unaltered it.had
 
   same_large : is_large (books now) space page ≡ is_large (books old) space page
   same_large =
-      large_there (books now) space page (held_page now.zero_frame was.x) (held_there now space page was.x at)
-      ∙ sym (large_there (books old) space page (held_page old.zero_frame was.x) (held_there old space page was.x was.had))
+      large_there (books now) space page (held_page now.zero_frame it.x) (held_there now space page it.x it.at)
+      ∙ sym (large_there (books old) space page (held_page old.zero_frame it.x) (held_there old space page it.x it.had))
 
   is_test : (b c : Bool) → is_alone (books old) space page ≡ b → is_large (books old) space page ≡ c → test page ≡ (b || c)
   is_test b c e f = (λ i. own_old i && (e i || f i))
@@ -91,22 +82,22 @@ module _ (old now : State) (space from page : ℕ) (apart : ArePagesApart old sp
       by_tests : (b : Bool) → is_alone (books old) space page ≡ b → (c : Bool) → is_large (books old) space page ≡ c → CommitsWhere b c now new space page
           → HaveAltered seen_page (so_far test (page + 1)) (alone_in old space) old new space
       by_tests true e c f is =
-          let put : new ≡ put_page now space page (committed was.x) = is ∙ changed_there committed now space page was.x at in
+          let put : new ≡ put_page now space page (committed it.x) = is ∙ changed_there committed now space page it.x it.at in
           subst (λ (v : State). HaveAltered seen_page (so_far test (page + 1)) (alone_in old space) old v space) (sym put)
-          (said_again seen_page _ _ (alone_in old space) old (put_page now space page (committed was.x)) space
-          (one_more seen_page (so_far test page) (alone_in old space) old now space page was.x (committed was.x) reached was.had unaltered refl refl refl (λ _. refl)
+          (said_again seen_page _ _ (alone_in old space) old (put_page now space page (committed it.x)) space
+          (one_more seen_page (so_far test page) (alone_in old space) old now space page it.x (committed it.x) it.reached it.had it.unaltered refl refl refl (λ _. refl)
           (λ no. let never = sym e ∙ no in cc))
           (λ r x had. next_done test page r (is_test true c e f)))
       by_tests false e true f placed_at =
-          let placed : IsPlaced now new space page (λ frame. copied frame was.x) =
-          subst (λ (o : Option PageState). IfSome o (λ x. IsPlaced now new space page (λ frame. copied frame x))) at placed_at in
+          let placed : IsPlaced now new space page (λ frame. copied frame it.x) =
+          subst (λ (o : Option PageState). IfSome o (λ x. IsPlaced now new space page (λ frame. copied frame x))) it.at placed_at in
           subst (λ (v : State). HaveAltered seen_page (so_far test (page + 1)) (alone_in old space) old v space) (sym placed.placed)
-          (said_again seen_page _ _ (alone_in old space) old (put_page now space page (copied placed.frame was.x)) space
-          (copied_one (so_far test page) old now space page was.x reached was.had unaltered e placed.frame placed.fresh)
+          (said_again seen_page _ _ (alone_in old space) old (put_page now space page (copied placed.frame it.x)) space
+          (copied_one (so_far test page) old now space page it.x it.reached it.had it.unaltered e placed.frame placed.fresh)
           (λ r x had. next_done test page r (is_test false true e f)))
       by_tests false e false f is =
           subst (λ (v : State). HaveAltered seen_page (so_far test (page + 1)) (alone_in old space) old v space) (sym is)
-          (said_again seen_page _ _ (alone_in old space) old now space reached (λ r x had. next_kept test page r (is_test false false e f)))
+          (said_again seen_page _ _ (alone_in old space) old now space it.reached (λ r x had. next_kept test page r (is_test false false e f)))
 
 pub settled_all : (old now : State) (space from : ℕ) → IsBare old space → IsSettling old now space from → IsNextOwn (books now) space from None → HasCommittedPages old now space
 settled_all old now space from plain h none = record {

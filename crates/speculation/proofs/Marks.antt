@@ -36,8 +36,12 @@ committed old mid new space h there is =
     let m = marked_so mid new space false (h.settled.spaces space ∙ there) is in record {
       settled = settled_marked (alone_or_large_in old space) (mark_of old space) false old mid new space h.settled m;
       ledger = subst (λ (l : Ledger). AreAlike l (ledger_after (Commit space) (books old))) (sym m.ledger) h.ledger;
-      small = λ r. ap (λ (l : Ledger). is_large l space r) m.ledger ∙ none_left old mid space h r;
     }
+
+pub none_left_marked : (old mid new : State) (space : ℕ) → HasCommittedPages old mid space → holds_space old space ≡ true → new ≡ put_mark mid space false
+    → NoneLarge (books new) space
+none_left_marked old mid new space h there is r =
+    ap (λ (l : Ledger). is_large l space r) (marked_so mid new space false (h.settled.spaces space ∙ there) is).ledger ∙ none_left old mid space h r
 
 -- nor after each overlay was given up
 pub none_kept : (mark : Bool) (old mid : State) (space : ℕ) → HasDiscarded mark old mid space → NoneLarge (books mid) space

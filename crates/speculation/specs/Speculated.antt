@@ -1,7 +1,6 @@
 use Rattle.std.specs.Prelude.{◌≡◌, ℕ, Bool, true, false, if◌then◌else◌, Result, Ok, Err}
 use Rattle.ledger.specs.Changes.{has_own}
 use Rattle.ledger.specs.Events.{Commit, Discard, Settle, ledger_after}
-use Rattle.ledger.specs.LargeLaws.{NoneLarge}
 use Rattle.overlay_pages.specs.Changes.{discarded}
 use Rattle.overlay_pages.specs.State.{State, base_of, books, memory_of}
 use Rattle.overlay_memory.specs.View.{TranslatedView, state_of}
@@ -24,12 +23,11 @@ pub record HasStarted (old new : State) (space : ℕ) : Type 0 where
   pub base : base_of new space ≡ memory_of new space
   pub ledger : IsAfter (Settle space) old new
 
--- Each page that is alone was settled, and each that has 32 own lines or more; the others, which have at most 31, have their
--- overlays, and the space has no mark.
+-- Each page that is alone was settled, and each that has 32 own lines or more; the others have their overlays, and the space has no
+-- mark.
 pub record HasCommitted (old new : State) (space : ℕ) : Type 0 where
   pub settled : AreInFrames (alone_or_large_in old space) false old new space
   pub ledger : IsAfter (Commit space) old new
-  pub small : NoneLarge (books new) space
 
 -- The base of before is what processes see, no page has own lines, and the space is marked as said. Nothing else changed.
 pub record HasDiscarded (mark : Bool) (old new : State) (space : ℕ) : Type 0 where

@@ -1,7 +1,9 @@
 //! Start, commit and discard.
 
 ghost use Rattle.std.specs.Prelude.{◌≡◌, OnOk, true};
-ghost use Rattle.overlay_memory.specs.View.{AreOverlaysSmall, NoneAwaits, state_of, translations_of};
+ghost use Rattle.ledger.specs.LargeLaws.{NoneLarge};
+ghost use Rattle.overlay_pages.specs.State.{books};
+ghost use Rattle.overlay_memory.specs.View.{NoneAwaits, state_of, translations_of};
 ghost use Rattle.space_maps.specs.Spaces.{holds_space};
 ghost use Rattle.translation_cache.specs.Translations.{flushed};
 ghost use Rattle.speculation.specs.Speculated.{Commits, Discards, Starts};
@@ -43,7 +45,7 @@ pub fn commit(mem: &mut OverlayMemory, space: u16) -> Result<(), SpeculationErro
     requires there { holds_space (state_of mem.old) space ≡ true }
     requires none_awaits { NoneAwaits (state_of mem.old) space }
     ensures commits { Commits mem.old mem.new space result }
-    ensures small { OnOk result (AreOverlaysSmall (state_of mem.new)) }
+    ensures small { NoneLarge (books (state_of mem.new)) space }
     ensures translations { OnOk result
         (translations_of mem.new ≡ flushed space (translations_of mem.old)) }
 {
