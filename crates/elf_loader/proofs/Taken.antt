@@ -5,7 +5,7 @@ use Rattle.std.proofs.lemmas.Bool.Decides.{nat_tests}
 use Rattle.std.proofs.lemmas.List.Folds.{list_any_at}
 use Rattle.sizes.specs.declared.TheConstants.{MOST_IMAGE_PAGES, STACK_ADDRESS}
 use Rattle.elf_loader.specs.Fields.{table_offset, table_length, loads_of}
-use Rattle.elf_loader.specs.Accepted.{exceeds, refused_if, first_refusal, file_refusal, header_refusals, table_refusals, page_refusals, HasTable}
+use Rattle.elf_loader.specs.Accepted.{ends_behind, refused_if, first_refusal, file_refusal, header_refusals, table_refusals, page_refusals, HasTable}
 use Rattle.elf_loader.specs.TakenLaws.{none_holds, unless}
 use Rattle.elf_loader.specs.Image.{pages_in, image_pages, page_given, listed_page, KeptImage, ReadsImage}
 use Rattle.elf_loader.specs.Reach.{IsBelowStack, Lies, IsTooMany}
@@ -52,7 +52,7 @@ by_pages file h t =
     then_of (header_refusals file ++ table_refusals file) (page_refusals file) (then_of (header_refusals file) (table_refusals file) h ∙ t)
     ∙ alone (ltb MOST_IMAGE_PAGES (length (image_pages file))) TooManyPages
 
-within : (n size at : ℕ) → ((n == 65535) || exceeds size at (56 * n)) ≡ false → 0 < n → at + 56 * n ≤ size
+within : (n size at : ℕ) → ((n == 65535) || ends_behind size at (56 * n)) ≡ false → 0 < n → at + 56 * n ≤ size
 within n size at h some = grind (arith, nat_tests)
 
 -- a file whose header passes is long enough to have one, and its table is in it
@@ -73,7 +73,7 @@ none_of : (test : ProgramHeader → Bool) (headers : List ProgramHeader) → lis
 none_of test headers none k d h =
     false_from_ne_true (test (get_or headers k d)) (λ is. let some = list_any_at test headers k d h is in cc)
 
-inside : (some size at : ℕ) → exceeds size at some ≡ false → 0 < some → at + some ≤ size
+inside : (some size at : ℕ) → ends_behind size at some ≡ false → 0 < some → at + some ≤ size
 inside some size at h is = grind (arith, nat_tests)
 
 pub all_lie : (file : List ℕ) → first_refusal (table_refusals file) ≡ None → All (Lies file) (loads_of file)

@@ -18,9 +18,9 @@ first_refusal [] = None
 first_refusal (None ∷ refusals) = first_refusal refusals
 first_refusal (Some error ∷ refusals) = Some error
 
--- whether bytes from a place on, where there are any, go beyond a limit
-abbrev pub exceeds : ℕ → ℕ → ℕ → Bool
-exceeds limit start size = nat_lt 0 size && nat_lt limit (start + size)
+-- whether bytes from a place on, where there are any, end behind a limit
+abbrev pub ends_behind : ℕ → ℕ → ℕ → Bool
+ends_behind limit start size = nat_lt 0 size && nat_lt limit (start + size)
 
 -- what a static executable's file header doesn't say (ELF-64, "ELF Header" and "File identification")
 unfoldable pub header_refusals : List ℕ → List (Option ElfError)
@@ -38,7 +38,7 @@ header_refusals file =
     -- where there are program headers, e_phentsize is 56, and the table is in the file. An e_phnum of 65,535 says
     -- that their number stands elsewhere.
     ∷ refused_if (not (table_length file == 0) && not (number_at file 54 2 == 56)) BadEntrySize
-    ∷ refused_if ((table_length file == 65535) || exceeds (length file) (table_offset file) (56 * table_length file)) TableOutside
+    ∷ refused_if ((table_length file == 65535) || ends_behind (length file) (table_offset file) (56 * table_length file)) TableOutside
     ∷ []
 
 -- what the program headers don't (ELF-64, "Program Header"); an image may use what lies below the stack
@@ -47,8 +47,8 @@ table_refusals file =
     -- p_type is PT_INTERP
     refused_if (list_any (λ header. header.kind == 3) (headers_of file)) NeedsInterpreter
     ∷ refused_if (list_any (λ load. nat_lt load.memory_size load.file_size) (loads_of file)) FileLarger
-    ∷ refused_if (list_any (λ load. exceeds (length file) load.offset load.file_size) (loads_of file)) SegmentOutside
-    ∷ refused_if (list_any (λ load. exceeds STACK_ADDRESS load.address load.memory_size) (loads_of file)) AddressOutside
+    ∷ refused_if (list_any (λ load. ends_behind (length file) load.offset load.file_size) (loads_of file)) SegmentOutside
+    ∷ refused_if (list_any (λ load. ends_behind STACK_ADDRESS load.address load.memory_size) (loads_of file)) AddressOutside
     ∷ refused_if (not (list_any (λ load. nat_lt 0 load.memory_size) (loads_of file))) NothingToLoad
     ∷ []
 

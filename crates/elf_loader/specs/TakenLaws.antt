@@ -7,7 +7,7 @@ use Rattle.std.specs.Option.{option_map_or}
 use Rattle.sizes.specs.declared.TheConstants.{PAGE_BYTES, STACK_ADDRESS, STACK_PAGE, MOST_IMAGE_PAGES}
 use Rattle.elf_loader.specs.Fields.{loads_of}
 use Rattle.elf_loader.specs.Touched.{image_pages, page_numbers}
-use Rattle.elf_loader.specs.Accepted.{exceeds, refused_if, first_refusal, file_refusal, header_refusals, table_refusals, page_refusals}
+use Rattle.elf_loader.specs.Accepted.{ends_behind, refused_if, first_refusal, file_refusal, header_refusals, table_refusals, page_refusals}
 use Rattle.elf_loader.specs.Image.{touches_memory, touches_file, file_holds, last_holding, byte_in, is_stored, page_bytes, page_length}
 use Rattle.elf_loader.specs.declared.header.ProgramHeader.{ProgramHeader}
 use Rattle.elf_loader.specs.declared.image.ElfError.TheVariants.{AddressOutside, TooManyPages}
@@ -36,7 +36,7 @@ few_pages file taken =
 
 -- whether a segment reaches the stack
 abbrev is_too_high : ProgramHeader → Bool
-is_too_high header = exceeds STACK_ADDRESS header.address header.memory_size
+is_too_high header = ends_behind STACK_ADDRESS header.address header.memory_size
 
 -- no segment reaches the stack
 none_high : (file : List ℕ) → file_refusal file ≡ None → list_any is_too_high (loads_of file) ≡ false

@@ -1,7 +1,7 @@
 ghost use Rattle.std.specs.Prelude.{◌≡◌, ℕ, ◌+◌, ◌-◌, ◌*◌, ◌<◌, ◌≤◌, nat_lt, length, slice_index, if◌then◌else◌};
 ghost use Rattle.sizes.specs.declared.TheConstants.{PAGE_BYTES, PAGE_END, STACK_ADDRESS};
 ghost use Rattle.elf_loader.specs.Fields.{number_at, header_at};
-ghost use Rattle.elf_loader.specs.Accepted.{exceeds};
+ghost use Rattle.elf_loader.specs.Accepted.{ends_behind};
 ghost use Rattle.elf_loader.specs.Reach.{IsAddressed, IsInFile};
 ghost use Rattle.elf_loader.specs.Image.{file_holds, fills, perms_of};
 
@@ -79,14 +79,14 @@ impl ProgramHeader {
 
     /// Whether some of its bytes would lie behind the end of a file of so many bytes.
     pub(crate) fn is_outside_file(&self, size: u64) -> bool
-        ensures { result ≡ exceeds size self.now.offset self.now.file_size }
+        ensures { result ≡ ends_behind size self.now.offset self.now.file_size }
     {
         0 < self.file_size && (size < self.file_size || size - self.file_size < self.offset)
     }
 
     /// Whether it reaches above what an image may use.
     pub(crate) fn is_too_high(&self) -> bool
-        ensures { result ≡ exceeds STACK_ADDRESS self.now.address self.now.memory_size }
+        ensures { result ≡ ends_behind STACK_ADDRESS self.now.address self.now.memory_size }
     {
         0 < self.memory_size
             && (STACK_ADDRESS < self.memory_size || STACK_ADDRESS - self.memory_size < self.address)

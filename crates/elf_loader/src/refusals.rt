@@ -1,7 +1,7 @@
 ghost use Rattle.std.specs.Prelude.{◌≡◌, ℕ, ◌+◌, ◌*◌, ◌≤◌, ◌==◌, ◌&&◌, ◌||◌, not, nat_lt, length, slice_index, IfOk};
 ghost use Rattle.std.specs.List.{list_any};
 ghost use Rattle.sizes.specs.declared.TheConstants.{STACK_ADDRESS};
-ghost use Rattle.elf_loader.specs.Accepted.{HasTable, exceeds, header_refusals, table_refusals, first_refusal};
+ghost use Rattle.elf_loader.specs.Accepted.{HasTable, ends_behind, header_refusals, table_refusals, first_refusal};
 ghost use Rattle.elf_loader.specs.Fields.{number_at, table_offset, table_length, headers_of, loads_of};
 
 use crate::header::{HEADER_BYTES, ProgramHeader, u16_at, u32_at, u64_at};
@@ -77,7 +77,7 @@ fn has_bad_entry_size(file: &[u8]) -> bool
 fn has_table_outside(file: &[u8]) -> bool
     requires { 64 ≤ length file.now }
     ensures { result ≡ ((table_length file.now == 65535)
-        || exceeds (length file.now) (table_offset file.now) (56 * table_length file.now)) }
+        || ends_behind (length file.now) (table_offset file.now) (56 * table_length file.now)) }
 {
     let count = u16_at(file, 56);
     let table = HEADER_BYTES as u64 * u64::from(count);
@@ -156,14 +156,14 @@ fn some_larger_in_file(loads: &[ProgramHeader]) -> bool
 
 /// Whether some segment has bytes that would lie behind the end of a file of so many bytes.
 fn some_outside_file(loads: &[ProgramHeader], size: u64) -> bool
-    ensures { result ≡ list_any (λ load. exceeds size load.offset load.file_size) loads.now }
+    ensures { result ≡ list_any (λ load. ends_behind size load.offset load.file_size) loads.now }
 {
     loads.iter().any(|header| header.is_outside_file(size))
 }
 
 /// Whether some segment reaches above what an image may use.
 fn some_too_high(loads: &[ProgramHeader]) -> bool
-    ensures { result ≡ list_any (λ load. exceeds STACK_ADDRESS load.address load.memory_size) loads.now }
+    ensures { result ≡ list_any (λ load. ends_behind STACK_ADDRESS load.address load.memory_size) loads.now }
 {
     loads.iter().any(|header| header.is_too_high())
 }
