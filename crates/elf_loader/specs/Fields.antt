@@ -10,23 +10,11 @@ use Rattle.elf_loader.specs.declared.header.ProgramHeader.{ProgramHeader}
 abbrev pub number_at : List ℕ → ℕ → ℕ → ℕ
 number_at file offset size = little_number size (drop offset file)
 
-abbrev pub file_type : List ℕ → ℕ
-file_type file = number_at file 16 2
-
-abbrev pub machine : List ℕ → ℕ
-machine file = number_at file 18 2
-
-abbrev pub version : List ℕ → ℕ
-version file = number_at file 20 4
-
 abbrev pub entry_address : List ℕ → ℕ
 entry_address file = number_at file 24 8
 
 abbrev pub table_offset : List ℕ → ℕ
 table_offset file = number_at file 32 8
-
-abbrev pub table_entry_size : List ℕ → ℕ
-table_entry_size file = number_at file 54 2
 
 abbrev pub table_length : List ℕ → ℕ
 table_length file = number_at file 56 2

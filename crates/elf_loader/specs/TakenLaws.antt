@@ -4,39 +4,46 @@ use Rattle.std.proofs.lemmas.Bool.{ltb-false}
 use Rattle.std.proofs.lemmas.Bool.Decides.{nat_tests}
 use Rattle.std.specs.List.{list_any, filter, range_with_len}
 use Rattle.std.specs.Option.{option_map_or}
-use Rattle.sizes.specs.declared.TheConstants.{PAGE_BYTES, STACK_PAGE, MOST_IMAGE_PAGES}
+use Rattle.sizes.specs.declared.TheConstants.{PAGE_BYTES, STACK_ADDRESS, STACK_PAGE, MOST_IMAGE_PAGES}
 use Rattle.elf_loader.specs.Fields.{loads_of}
 use Rattle.elf_loader.specs.Touched.{image_pages, page_numbers}
-use Rattle.elf_loader.specs.Accepted.{Refusal, first_error, file_refusal, header_refusals, table_refusals, page_refusals, is_too_high}
+use Rattle.elf_loader.specs.Accepted.{ends_behind, refused_if, first_refusal, file_refusal, header_refusals, table_refusals, page_refusals}
 use Rattle.elf_loader.specs.Image.{touches_memory, touches_file, file_holds, last_holding, byte_in, is_stored, page_bytes, page_length}
 use Rattle.elf_loader.specs.declared.header.ProgramHeader.{ProgramHeader}
-use Rattle.elf_loader.specs.declared.image.ElfError.{ElfError}
-use Rattle.elf_loader.specs.declared.image.ElfError.TheVariants.{TooManyPages}
+use Rattle.elf_loader.specs.declared.image.ElfError.TheVariants.{AddressOutside, TooManyPages}
 
 -- What callers may use of a file that is taken.
 
--- none of the refusals of a file that is taken holds
-unless_first : (b : Bool) (error : ElfError) (rest : Option ElfError) → cond b (Some error) rest ≡ None → (b ≡ false) × (rest ≡ None)
-unless_first true error rest h = cc
-unless_first false error rest h = (refl, h)
-
-none_holds : (refusals : List Refusal) (k : ℕ) (d : Refusal) → first_error refusals ≡ None → k < length refusals → (get_or refusals k d).holds ≡ false
+-- no refusal of a list holds where none is its first
+pub none_holds : {E : Type 0} → (refusals : List (Option E)) (k : ℕ) (d : Option E) → first_refusal refusals ≡ None → k < length refusals
+    → get_or refusals k d ≡ None
 none_holds [] k d h below = absurd (omega arith)
-none_holds (r ∷ refusals) zero d h below = (unless_first r.holds r.error (first_error refusals) h).0
-none_holds (r ∷ refusals) (suc k) d h below = none_holds refusals k d (unless_first r.holds r.error (first_error refusals) h).1 (omega arith)
+none_holds (None ∷ rs) zero d h below = refl
+none_holds (None ∷ rs) (suc k) d h below = none_holds rs k d h (omega arith)
+none_holds (Some e ∷ rs) k d h below = cc
+
+-- one that doesn't hold has a test that fails
+pub unless : {E : Type 0} → (b : Bool) (e : E) → refused_if b e ≡ None → b ≡ false
+unless true e h = cc
+unless false e h = refl
 
 -- it has no more pages than an image may have: the last of the refusals doesn't hold
 pub few_pages : (file : List ℕ) → file_refusal file ≡ None → length (image_pages file) ≤ MOST_IMAGE_PAGES
 unfolding file_refusal header_refusals table_refusals page_refusals
 few_pages file taken =
-    ltb-false MOST_IMAGE_PAGES (length (image_pages file))
-    (none_holds (header_refusals file ++ table_refusals file ++ page_refusals file) 14 (record { holds = true; error = TooManyPages }) taken (omega arith))
+    ltb-false MOST_IMAGE_PAGES (length (image_pages file)) (unless _ TooManyPages
+    (none_holds (header_refusals file ++ table_refusals file ++ page_refusals file) 14 None taken (omega arith)))
+
+-- whether a segment reaches the stack
+abbrev is_too_high : ProgramHeader → Bool
+is_too_high header = ends_behind STACK_ADDRESS header.address header.memory_size
 
 -- no segment reaches the stack
-pub none_high : (file : List ℕ) → file_refusal file ≡ None → list_any is_too_high (loads_of file) ≡ false
+none_high : (file : List ℕ) → file_refusal file ≡ None → list_any is_too_high (loads_of file) ≡ false
 unfolding file_refusal header_refusals table_refusals page_refusals
 none_high file taken =
-    none_holds (header_refusals file ++ table_refusals file ++ page_refusals file) 12 (record { holds = true; error = TooManyPages }) taken (omega arith)
+    unless _ AddressOutside
+    (none_holds (header_refusals file ++ table_refusals file ++ page_refusals file) 12 None taken (omega arith))
 
 -- the pages are what a test keeps of all numbers
 pub kept_numbers : (file : List ℕ) → image_pages file ≡ filter (λ page. list_any (touches_memory page) (loads_of file)) (range_with_len 0 page_numbers)

@@ -1,7 +1,7 @@
-ghost use Rattle.std.specs.Prelude.{◌≡◌, ℕ, ◌+◌, ◌-◌, ◌*◌, ◌<◌, ◌≤◌, length, slice_index, if◌then◌else◌};
-ghost use Rattle.sizes.specs.declared.TheConstants.{PAGE_BYTES, PAGE_END};
+ghost use Rattle.std.specs.Prelude.{◌≡◌, ℕ, ◌+◌, ◌-◌, ◌*◌, ◌<◌, ◌≤◌, nat_lt, length, slice_index, if◌then◌else◌};
+ghost use Rattle.sizes.specs.declared.TheConstants.{PAGE_BYTES, PAGE_END, STACK_ADDRESS};
 ghost use Rattle.elf_loader.specs.Fields.{number_at, header_at};
-ghost use Rattle.elf_loader.specs.Accepted.{is_larger_in_file, is_outside_file, is_too_high, has_memory};
+ghost use Rattle.elf_loader.specs.Accepted.{ends_behind};
 ghost use Rattle.elf_loader.specs.Reach.{IsAddressed, IsInFile};
 ghost use Rattle.elf_loader.specs.Image.{file_holds, fills, perms_of};
 
@@ -72,21 +72,21 @@ impl ProgramHeader {
 
     /// Whether its part in the file is larger than it is in memory.
     pub(crate) fn is_larger_in_file(&self) -> bool
-        ensures { result ≡ is_larger_in_file self.now }
+        ensures { result ≡ nat_lt self.now.memory_size self.now.file_size }
     {
         self.memory_size < self.file_size
     }
 
     /// Whether some of its bytes would lie behind the end of a file of so many bytes.
     pub(crate) fn is_outside_file(&self, size: u64) -> bool
-        ensures { result ≡ is_outside_file size self.now }
+        ensures { result ≡ ends_behind size self.now.offset self.now.file_size }
     {
         0 < self.file_size && (size < self.file_size || size - self.file_size < self.offset)
     }
 
     /// Whether it reaches above what an image may use.
     pub(crate) fn is_too_high(&self) -> bool
-        ensures { result ≡ is_too_high self.now }
+        ensures { result ≡ ends_behind STACK_ADDRESS self.now.address self.now.memory_size }
     {
         0 < self.memory_size
             && (STACK_ADDRESS < self.memory_size || STACK_ADDRESS - self.memory_size < self.address)
@@ -94,7 +94,7 @@ impl ProgramHeader {
 
     /// Whether it has bytes in memory.
     pub(crate) fn has_memory(&self) -> bool
-        ensures { result ≡ has_memory self.now }
+        ensures { result ≡ nat_lt 0 self.now.memory_size }
     {
         0 < self.memory_size
     }

@@ -1,7 +1,8 @@
-ghost use Rattle.std.specs.Prelude.{◌≡◌, ◌≤◌, length, IfOk};
+ghost use Rattle.std.specs.Prelude.{◌≡◌, ℕ, ◌+◌, ◌*◌, ◌≤◌, ◌==◌, ◌&&◌, ◌||◌, not, nat_lt, length, slice_index, IfOk};
 ghost use Rattle.std.specs.List.{list_any};
-ghost use Rattle.elf_loader.specs.Accepted.{has_bad_magic, is_not_class_64, is_not_little, has_bad_version, is_not_executable, is_not_riscv, has_bad_entry_size, has_table_outside, HasTable, names_interpreter, is_larger_in_file, is_outside_file, is_too_high, has_memory, header_refusals, table_refusals, first_error};
-ghost use Rattle.elf_loader.specs.Fields.{headers_of, loads_of};
+ghost use Rattle.sizes.specs.declared.TheConstants.{STACK_ADDRESS};
+ghost use Rattle.elf_loader.specs.Accepted.{HasTable, ends_behind, header_refusals, table_refusals, first_refusal};
+ghost use Rattle.elf_loader.specs.Fields.{number_at, table_offset, table_length, headers_of, loads_of};
 
 use crate::header::{HEADER_BYTES, ProgramHeader, u16_at, u32_at, u64_at};
 use crate::image::ElfError;
@@ -10,77 +11,73 @@ use std::alloc::{AllocError, Global};
 /// The bytes of the file header.
 const FILE_HEADER_BYTES: usize = 64;
 
+/// The first four bytes of each ELF file, 7F 45 4C 46, as a little-endian number.
+const MAGIC: u32 = 0x464C_457F;
+
 /// The number of program headers that stands for one that is kept elsewhere.
 const ELSEWHERE: u16 = 65535;
 
 /// Whether the first bytes are others than those of each ELF file.
-#[tactic(auto, unfolding(crate::specs::Accepted::has_bad_magic))]
 fn has_bad_magic(file: &[u8]) -> bool
     requires { 64 ≤ length file.now }
-    ensures { result ≡ has_bad_magic file.now }
+    ensures { result ≡ (not (number_at file.now 0 4 == 0x464C457F)) }
 {
-    !(file[0] == 0x7F && file[1] == 0x45 && file[2] == 0x4C && file[3] == 0x46)
+    u32_at(file, 0) != MAGIC
 }
 
 /// Whether the class is another than that of 64 bits.
-#[tactic(auto, unfolding(crate::specs::Accepted::is_not_class_64))]
 fn is_not_class_64(file: &[u8]) -> bool
     requires { 64 ≤ length file.now }
-    ensures { result ≡ is_not_class_64 file.now }
+    ensures { result ≡ (not (slice_index file.now 4 == 2)) }
 {
     file[4] != 2
 }
 
 /// Whether the order of bytes is another than little-endian.
-#[tactic(auto, unfolding(crate::specs::Accepted::is_not_little))]
 fn is_not_little(file: &[u8]) -> bool
     requires { 64 ≤ length file.now }
-    ensures { result ≡ is_not_little file.now }
+    ensures { result ≡ (not (slice_index file.now 5 == 1)) }
 {
     file[5] != 1
 }
 
 /// Whether the file says another version than the current one.
-#[tactic(auto, unfolding(crate::specs::Accepted::has_bad_version))]
 fn has_bad_version(file: &[u8]) -> bool
     requires { 64 ≤ length file.now }
-    ensures { result ≡ has_bad_version file.now }
+    ensures { result ≡ (not (slice_index file.now 6 == 1) || not (number_at file.now 20 4 == 1)) }
 {
     file[6] != 1 || u32_at(file, 20) != 1
 }
 
 /// Whether the file is anything but a static executable.
-#[tactic(auto, unfolding(crate::specs::Accepted::is_not_executable))]
 fn is_not_executable(file: &[u8]) -> bool
     requires { 64 ≤ length file.now }
-    ensures { result ≡ is_not_executable file.now }
+    ensures { result ≡ (not (number_at file.now 16 2 == 2)) }
 {
     u16_at(file, 16) != 2
 }
 
 /// Whether the file is for another machine than RISC-V.
-#[tactic(auto, unfolding(crate::specs::Accepted::is_not_riscv))]
 fn is_not_riscv(file: &[u8]) -> bool
     requires { 64 ≤ length file.now }
-    ensures { result ≡ is_not_riscv file.now }
+    ensures { result ≡ (not (number_at file.now 18 2 == 243)) }
 {
     u16_at(file, 18) != 243
 }
 
 /// Whether there are program headers, of another size than 56 bytes.
-#[tactic(auto, unfolding(crate::specs::Accepted::has_bad_entry_size))]
 fn has_bad_entry_size(file: &[u8]) -> bool
     requires { 64 ≤ length file.now }
-    ensures { result ≡ has_bad_entry_size file.now }
+    ensures { result ≡ (not (table_length file.now == 0) && not (number_at file.now 54 2 == 56)) }
 {
     u16_at(file, 56) != 0 && u16_at(file, 54) != 56
 }
 
 /// Whether the table of program headers isn't all in the file.
-#[tactic(auto, unfolding(crate::specs::Accepted::has_table_outside))]
 fn has_table_outside(file: &[u8]) -> bool
     requires { 64 ≤ length file.now }
-    ensures { result ≡ has_table_outside file.now }
+    ensures { result ≡ ((table_length file.now == 65535)
+        || ends_behind (length file.now) (table_offset file.now) (56 * table_length file.now)) }
 {
     let count = u16_at(file, 56);
     let table = HEADER_BYTES as u64 * u64::from(count);
@@ -91,7 +88,7 @@ fn has_table_outside(file: &[u8]) -> bool
 /// The first refusal by the file header.
 #[tactic(auto, unfolding(crate::specs::Accepted::header_refusals))]
 pub(crate) fn header_refusal(file: &[u8]) -> Option<ElfError>
-    ensures { result ≡ first_error (header_refusals file.now) }
+    ensures { result ≡ first_refusal (header_refusals file.now) }
 {
     if file.len() < FILE_HEADER_BYTES {
         Some(ElfError::TooShort)
@@ -138,7 +135,7 @@ pub(crate) fn read_loads(alloc: Global, file: &[u8]) -> Result<Vec<ProgramHeader
 fn needs_interpreter(file: &[u8]) -> bool
     requires long { 64 ≤ length file.now }
     requires in_file { HasTable file.now }
-    ensures { result ≡ list_any names_interpreter (headers_of file.now) }
+    ensures { result ≡ list_any (λ header. header.kind == 3) (headers_of file.now) }
 {
     let table = u64_at(file, 32) as usize;
     let count = u16_at(file, 56) as usize;
@@ -152,28 +149,28 @@ fn needs_interpreter(file: &[u8]) -> bool
 
 /// Whether some segment has more bytes in the file than in memory.
 fn some_larger_in_file(loads: &[ProgramHeader]) -> bool
-    ensures { result ≡ list_any is_larger_in_file loads.now }
+    ensures { result ≡ list_any (λ load. nat_lt load.memory_size load.file_size) loads.now }
 {
     loads.iter().any(|header| header.is_larger_in_file())
 }
 
 /// Whether some segment has bytes that would lie behind the end of a file of so many bytes.
 fn some_outside_file(loads: &[ProgramHeader], size: u64) -> bool
-    ensures { result ≡ list_any (is_outside_file size) loads.now }
+    ensures { result ≡ list_any (λ load. ends_behind size load.offset load.file_size) loads.now }
 {
     loads.iter().any(|header| header.is_outside_file(size))
 }
 
 /// Whether some segment reaches above what an image may use.
 fn some_too_high(loads: &[ProgramHeader]) -> bool
-    ensures { result ≡ list_any is_too_high loads.now }
+    ensures { result ≡ list_any (λ load. ends_behind STACK_ADDRESS load.address load.memory_size) loads.now }
 {
     loads.iter().any(|header| header.is_too_high())
 }
 
 /// Whether some segment has bytes in memory.
 fn some_memory(loads: &[ProgramHeader]) -> bool
-    ensures { result ≡ list_any has_memory loads.now }
+    ensures { result ≡ list_any (λ load. nat_lt 0 load.memory_size) loads.now }
 {
     loads.iter().any(|header| header.has_memory())
 }
@@ -184,7 +181,7 @@ pub(crate) fn table_refusal(file: &[u8], loads: &[ProgramHeader]) -> Option<ElfE
     requires long { 64 ≤ length file.now }
     requires in_file { HasTable file.now }
     requires loads { loads.now ≡ loads_of file.now }
-    ensures { result ≡ first_error (table_refusals file.now) }
+    ensures { result ≡ first_refusal (table_refusals file.now) }
 {
     if needs_interpreter(file) {
         Some(ElfError::NeedsInterpreter)

@@ -140,6 +140,10 @@ module _ (v : State) (from to : ℕ) (differs : from ≡ to → ⊥) where
   unfolding partly
   from_stays end r = beside_space v to _ from r differs
 
+  pub mark_stays : (end : ℕ) → (space_in (partly v from to end) from).speculating ≡ (space_in v from).speculating
+  unfolding partly
+  mark_stays end = ap (λ (x : SpaceState). x.speculating) (space_beside v to _ from differs)
+
   pub to_waits : (end : ℕ) → (space_in (partly v from to end) to).awaiting ≡ high_part (entries_in v from) end
   unfolding partly
   to_waits end = ap (λ (x : SpaceState). x.awaiting) (space_put v to _ to refl)
@@ -346,6 +350,7 @@ has_restored v w from to unmarked is =
 -- One step of the walk, in a state that is partly shared.
 pub record HasStep (v w : State) (from to end page : ℕ) : Type 0 where
   pub ahead : end ≤ page
+  pub mark : (space_in w from).speculating ≡ (space_in v from).speculating
   pub space : holds_space w to ≡ true
   pub least : IsLeast (space_in w to).awaiting page
   pub frame : AwaitsLike w from to page
@@ -362,6 +367,7 @@ share_step v w from to end page differs is next =
         let some : is_some (page_in v from page) ≡ true = ap is_some (sym (from_stays v from to differs end page)) ∙ next.1 in
         let p = has_page v from page some in record {
           ahead = next.0;
+          mark = mark_stays v from to differs end;
           space = to_there v from to differs end;
           least = is_least v from to differs end page next p.x p.there;
           frame = is_like v from to differs end page next p.x p.there;
@@ -377,6 +383,7 @@ shared_all v w from to end differs is none = is ∙ partly_all v from to differs
 pub record IsBeside (v w : State) (from to : ℕ) : Type 0 where
   pub there : holds_space v from ≡ true → holds_space w from ≡ true
   pub space : holds_space w to ≡ true
+  pub unmarked : (space_in v from).speculating ≡ false → (space_in w from).speculating ≡ false
   pub none_awaits : (space_in v from).awaiting ≡ empty → (space_in w from).awaiting ≡ empty
   pub low : ArePagesLow v from → ArePagesLow w from
   pub fits : FitsAfter (Copy from to) v → FitsAfter (Copy from to) w
@@ -386,6 +393,7 @@ pub put_beside : (v : State) (from to : ℕ) (x : SpaceState) → (from ≡ to �
 put_beside v from to x differs = record {
   there = λ h. put_spaces v to x from ∙ or_true (nat_eq from to) (holds_space v from) h;
   space = put_there v to x;
+  unmarked = λ h. ap (λ (y : SpaceState). y.speculating) (space_beside v to x from differs) ∙ h;
   none_awaits = λ h. ap (λ (y : SpaceState). y.awaiting) (space_beside v to x from differs) ∙ h;
   low = λ h r some. h r (ap is_some (sym (beside_space v to x from r differs)) ∙ some);
   fits = fits_too v from to x differs;
@@ -397,11 +405,12 @@ put_beside v from to x differs = record {
     or_true false c e = e
 
 -- A space without a page that can have those of another one: one that was just made, and one that lost its own.
-pub ready_made : (v u : State) (from to : ℕ) (table : Pages) → (from ≡ to → ⊥) → holds_space v from ≡ true → holds_space v to ≡ true → space_in v to ≡ bare_space
+pub ready_made : (v u : State) (from to : ℕ) (table : Pages) → (from ≡ to → ⊥) → holds_space v from ≡ true → (space_in v from).speculating ≡ false → holds_space v to ≡ true → space_in v to ≡ bare_space
     → ArePagesLow v from → FitsAfter (Copy from to) v → u ≡ v → table ≡ entries_in v from → NamesOnce v.zero_frame table → CanHave u from to table
-ready_made v u from to table differs here made is_bare are_low fit same is named = subst (λ (s : State). CanHave s from to table) (sym same) (record {
+ready_made v u from to table differs here off made is_bare are_low fit same is named = subst (λ (s : State). CanHave s from to table) (sym same) (record {
   differ = differs;
   there = here;
+  unmarked = off;
   space = made;
   bare = ap (λ (y : SpaceState). y.pages) is_bare;
   none_awaits = ap (λ (y : SpaceState). y.awaiting) is_bare;
@@ -418,12 +427,13 @@ cleared_is : (v u w : State) (to : ℕ) → u ≡ v → w ≡ emptied_space u to
 unfolding emptied_space
 cleared_is v u w to same is = is ∙ ap (λ (s : State). emptied_space s to) same
 
-pub ready_cleared : (v u w : State) (from to : ℕ) (table : Pages) → (from ≡ to → ⊥) → holds_space v from ≡ true → (space_in v to).awaiting ≡ empty
+pub ready_cleared : (v u w : State) (from to : ℕ) (table : Pages) → (from ≡ to → ⊥) → holds_space v from ≡ true → (space_in v from).speculating ≡ false → (space_in v to).awaiting ≡ empty
     → ArePagesLow v from → FitsAfter (Copy from to) v → u ≡ v → w ≡ emptied_space u to → table ≡ entries_in v from → NamesOnce v.zero_frame table → CanHave w from to table
-ready_cleared v u w from to table differs here none_awaits are_low fit same gone is named =
+ready_cleared v u w from to table differs here off none_awaits are_low fit same gone is named =
     subst (λ (s : State). CanHave s from to table) (sym (cleared_is v u w to same gone)) (record {
       differ = differs;
       there = beside.there here;
+      unmarked = beside.unmarked off;
       space = beside.space;
       bare = ap (λ (y : SpaceState). y.pages) now;
       none_awaits = ap (λ (y : SpaceState). y.awaiting) now ∙ none_awaits;

@@ -59,6 +59,7 @@ with_copies kept state space = kept + class_sum (values (pages_of (books state) 
 pub record CanHave (state : State) (from to : ℕ) (table : Pages) : Type 0 where
   pub differ : from ≡ to → ⊥
   pub there : holds_space state from ≡ true
+  pub unmarked : (space_in state from).speculating ≡ false
   pub space : holds_space state to ≡ true
   pub bare : (space_in state to).pages ≡ empty
   pub none_awaits : (space_in state to).awaiting ≡ empty

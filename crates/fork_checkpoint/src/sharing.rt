@@ -1,6 +1,6 @@
 //! The pages of a space are shared with another one.
 
-ghost use Rattle.std.specs.Prelude.{◌≡◌, ◌≢◌, OnErr, OnOk, true};
+ghost use Rattle.std.specs.Prelude.{◌≡◌, ◌≢◌, OnErr, OnOk, true, false};
 ghost use Rattle.std.specs.FinMap as map;
 ghost use Rattle.ledger.specs.Events.{Copy};
 ghost use Rattle.overlay_memory.specs.View.{NoneAwaits, state_of, translations_of};
@@ -19,6 +19,7 @@ use std::alloc::AllocError;
 fn share_all(mem: &mut OverlayMemory, from: u16, to: u16)
     requires differ { from ≢ to }
     requires there { holds_space (state_of mem.old) from ≡ true }
+    requires unmarked { (space_in (state_of mem.old) from).speculating ≡ false }
     requires space { holds_space (state_of mem.old) to ≡ true }
     requires empty { (space_in (state_of mem.old) to).pages ≡ map.empty }
     requires awaits { AwaitsAll (state_of mem.old) from to }
@@ -51,6 +52,7 @@ fn share_table(mem: &mut OverlayMemory, from: u16, to: u16, table: PageTable)
 pub(crate) fn fill_space(mem: &mut OverlayMemory, from: u16, to: u16) -> Result<(), AllocError>
     requires differ { from ≢ to }
     requires there { holds_space (state_of mem.old) from ≡ true }
+    requires unmarked { (space_in (state_of mem.old) from).speculating ≡ false }
     requires none_awaits { NoneAwaits (state_of mem.old) from }
     requires space { holds_space (state_of mem.old) to ≡ true }
     requires bare { space_in (state_of mem.old) to ≡ bare_space }
@@ -77,6 +79,7 @@ pub(crate) fn fill_space(mem: &mut OverlayMemory, from: u16, to: u16) -> Result<
 pub(crate) fn refill_space(mem: &mut OverlayMemory, from: u16, to: u16) -> Result<(), AllocError>
     requires differ { from ≢ to }
     requires from_there { holds_space (state_of mem.old) from ≡ true }
+    requires from_unmarked { (space_in (state_of mem.old) from).speculating ≡ false }
     requires none_of_from_awaits { NoneAwaits (state_of mem.old) from }
     requires there { holds_space (state_of mem.old) to ≡ true }
     requires none_awaits { NoneAwaits (state_of mem.old) to }

@@ -244,3 +244,42 @@ without_absent ledger space page there absent = same_ledger _ _
     (λ s p. by_place space page s p
     (λ ss pp. gone_here ledger space page s p ss pp ∙ sym absent ∙ ap (λ n. holding_at ledger n page) (sym ss) ∙ ap (holding_at ledger s) (sym pp))
     (λ d. gone_other ledger space page s p d))
+
+-- Where a page gets an origin that no page has, another one is alone as before, unless both had one origin; and it doesn't cease to be.
+
+pub zero_shared : (ledger : Ledger) (space page : ℕ) (x : Holding) → holding_at ledger space page ≡ Some x → nat_eq x.origin 0 ≡ true → is_alone ledger space page ≡ false
+zero_shared ledger space page x there zero =
+    not_true _ (λ alone.
+    let parts = unused_parts (without_page ledger space page) x.origin (sym (alone_is ledger space page x there) ∙ alone) in
+    let no = sym zero ∙ parts.0 in cc)
+
+module _ (ledger : Ledger) (space page q r : ℕ) (x y z : Holding) (differs : q ≡ space → r ≡ page → ⊥) (there : holding_at ledger space page ≡ Some x)
+    (at : holding_at ledger q r ≡ Some z) (new : is_unused ledger y.origin ≡ true) where
+  new_differs : nat_eq y.origin z.origin ≡ false
+  new_differs = not_true _ (λ same.
+      contradicts ledger y.origin (any_page (λ (holding : Holding). holding.origin == y.origin) ledger q r z at (grind (arith, nat_tests))) (unused_parts ledger y.origin new).1)
+
+  pub alone_beside : (nat_eq x.origin z.origin ≡ true → nat_eq x.origin 0 ≡ true) → is_alone (with_page ledger space page y) q r ≡ is_alone ledger q r
+  alone_beside apart = by_zero (nat_eq z.origin 0) refl
+    where
+      unlike : nat_eq z.origin 0 ≡ false → nat_eq x.origin z.origin ≡ false
+      unlike some = not_true _ (λ same. let zero = apart same in let no = some in absurd (grind (arith, nat_tests)))
+
+      by_zero : (b : Bool) → nat_eq z.origin 0 ≡ b → is_alone (with_page ledger space page y) q r ≡ is_alone ledger q r
+      by_zero true e = zero_shared (with_page ledger space page y) q r z (put_other ledger space page y q r differs ∙ at) e ∙ sym (zero_shared ledger q r z at e)
+      by_zero false e = alone_kept ledger space page q r x y z differs there at (new_differs ∙ sym (unlike e))
+
+  pub alone_still : is_alone ledger q r ≡ true → is_alone (with_page ledger space page y) q r ≡ true
+  alone_still alone =
+      let apart : IsAlone ledger q r = alone_apart ledger q r alone in
+      alone_kept ledger space page q r x y z differs there at (new_differs ∙ sym (unlike apart)) ∙ alone
+    where
+      unlike : IsAlone ledger q r → nat_eq x.origin z.origin ≡ false
+      unlike apart =
+          ap (nat_eq x.origin) (ap (λ (o : Option Holding). option_map_or (λ (holding : Holding). holding.origin) o 0) (sym at ∙ apart.there))
+          ∙ apart.others space page x (λ s p. differs (sym s) (sym p)) there
+
+-- no two pages of a space have one origin, but for 0
+abbrev pub AreOriginsApart : Ledger → ℕ → Type 0
+AreOriginsApart ledger space = (p q : ℕ) (x y : Holding) → holding_at ledger space p ≡ Some x → holding_at ledger space q ≡ Some y
+    → x.origin ≡ y.origin → nat_eq x.origin 0 ≡ false → p ≡ q

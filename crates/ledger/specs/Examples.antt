@@ -1,20 +1,25 @@
-use Rattle.std.specs.Prelude.{◌≡◌, ℕ, ◌+◌, ◌*◌, true, false, List, [], ◌∷◌, ◌++◌, map, refl}
+use Rattle.std.specs.Prelude.{◌≡◌, ℕ, ◌+◌, ◌*◌, true, false, List, [], ◌∷◌, ◌++◌, map, Some, refl}
 use Rattle.std.proofs.Common.{◌∙◌}
 use Rattle.std.specs.List.{range_with_len}
 use Rattle.std.specs.FinMap.{empty}
 use Rattle.sizes.specs.declared.TheConstants.{PAGE_BYTES}
-use Rattle.ledger.specs.Units.{class, units}
-use Rattle.ledger.specs.Changes.{with_lines}
+use Rattle.ledger.specs.Ledger.{holding_at}
+use Rattle.ledger.specs.Units.{class, own_lines, units}
+use Rattle.ledger.specs.Changes.{with_lines, without_own}
 use Rattle.ledger.specs.Events.{Event, Load, Store, Copy, Settle, SettlePage, Commit, Discard, Map, Unmap, Drop}
 use Rattle.ledger.specs.UnitLaws.{frame_for}
 use Rattle.ledger.specs.Touched.{lines_on_page, touched, touched_between}
-use Rattle.ledger.specs.Written.{all_after, units_are}
+use Rattle.ledger.specs.Written.{all_after, holding_is, lines_are, units_are}
 
 -- The units after some events, as the checker computes them from what each event does.
 
 -- some events, from no space on, come to so many units
 abbrev pub Needs : List Event → ℕ → Type 0
 Needs events count = units (all_after events empty) ≡ count
+
+-- and to so many own lines
+abbrev pub ComesTo : List Event → ℕ → ℕ → Type 0
+ComesTo events count lines = Needs events count × (own_lines (all_after events empty) ≡ lines)
 
 -- a load of 17 pages: page 16, which is stored, and the stack
 abbrev loads : ℕ → Event
@@ -67,29 +72,6 @@ two_pages_beside = units_are over_two_pages ∙ refl
 pub two_pages_alone : Needs over_two_pages_later 33
 unfolding class frame_for with_lines touched touched_between lines_on_page
 two_pages_alone = units_are over_two_pages_later ∙ refl
-
--- Segments that grow: a zero page of which 31 lines are stored, then 32, then 64.
-
-abbrev with_31_lines : List Event
-with_31_lines = loads 1 ∷ Map 1 32 1 ∷ stores 1 131072 1984 ∷ []
-
-abbrev with_32_lines : List Event
-with_32_lines = with_31_lines ++ (stores 1 133056 1 ∷ [])
-
-abbrev with_64_lines : List Event
-with_64_lines = with_32_lines ++ (stores 1 133120 2048 ∷ [])
-
-pub units_of_31_lines : Needs with_31_lines 40
-unfolding class frame_for with_lines touched touched_between lines_on_page
-units_of_31_lines = units_are with_31_lines ∙ refl
-
-pub units_of_32_lines : Needs with_32_lines 48
-unfolding class frame_for with_lines touched touched_between lines_on_page
-units_of_32_lines = units_are with_32_lines ∙ refl
-
-pub units_of_64_lines : Needs with_64_lines 48
-unfolding class frame_for with_lines touched touched_between lines_on_page
-units_of_64_lines = units_are with_64_lines ∙ refl
 
 -- A fork, and a speculation that is given up.
 
@@ -194,3 +176,134 @@ restored_twice = loads 1 ∷ Copy 1 2 ∷ stores 1 67584 1 ∷ Copy 2 1 ∷ stor
 pub units_restored_twice : Needs restored_twice 32
 unfolding class frame_for with_lines touched touched_between lines_on_page
 units_restored_twice = units_are restored_twice ∙ refl
+
+-- Pages with 32 own lines or more.
+
+-- A speculation of a fork that stores into half of a page, is committed, and is forked: 48 units throughout.
+
+abbrev half_speculated : List Event
+half_speculated = loads 1 ∷ Copy 1 2 ∷ stores_speculating 1 67584 2048 ∷ []
+
+abbrev half_committed : List Event
+half_committed = half_speculated ++ (Commit 1 ∷ [])
+
+abbrev half_forked : List Event
+half_forked = half_committed ++ (Copy 1 3 ∷ [])
+
+pub units_half_speculated : ComesTo half_speculated 48 32
+unfolding class frame_for with_lines touched touched_between lines_on_page
+units_half_speculated = (units_are half_speculated ∙ refl, lines_are half_speculated ∙ refl)
+
+pub units_half_committed : ComesTo half_committed 48 0
+unfolding class frame_for with_lines touched touched_between lines_on_page
+units_half_committed = (units_are half_committed ∙ refl, lines_are half_committed ∙ refl)
+
+pub units_half_forked : ComesTo half_forked 48 0
+unfolding class frame_for with_lines touched touched_between lines_on_page
+units_half_forked = (units_are half_forked ∙ refl, lines_are half_forked ∙ refl)
+
+-- A zero page of which 31 lines are stored, then one more, then 32 more: it gets a frame with the 32nd line, which is written then.
+
+abbrev with_31_lines : List Event
+with_31_lines = loads 1 ∷ Map 1 32 1 ∷ stores 1 131072 1984 ∷ []
+
+abbrev with_32_lines : List Event
+with_32_lines = with_31_lines ++ (stores 1 133056 1 ∷ [])
+
+abbrev with_64_lines : List Event
+with_64_lines = with_32_lines ++ (stores 1 133120 2048 ∷ [])
+
+pub units_of_31_lines : ComesTo with_31_lines 40 31
+unfolding class frame_for with_lines touched touched_between lines_on_page
+units_of_31_lines = (units_are with_31_lines ∙ refl, lines_are with_31_lines ∙ refl)
+
+pub units_of_32_lines : ComesTo with_32_lines 48 0
+unfolding class frame_for with_lines touched touched_between lines_on_page
+units_of_32_lines = (units_are with_32_lines ∙ refl, lines_are with_32_lines ∙ refl)
+
+pub units_of_64_lines : ComesTo with_64_lines 48 0
+unfolding class frame_for with_lines touched touched_between lines_on_page
+units_of_64_lines = (units_are with_64_lines ∙ refl, lines_are with_64_lines ∙ refl)
+
+-- 30 lines, and a store into two lines more
+abbrev with_30_and_2_lines : List Event
+with_30_and_2_lines = loads 1 ∷ Map 1 32 1 ∷ stores 1 131072 1920 ∷ stores 1 133052 8 ∷ []
+
+pub units_of_30_and_2_lines : ComesTo with_30_and_2_lines 48 0
+unfolding class frame_for with_lines touched touched_between lines_on_page
+units_of_30_and_2_lines = (units_are with_30_and_2_lines ∙ refl, lines_are with_30_and_2_lines ∙ refl)
+
+-- half of a page at once: of a zero page, of one that another space has too, of one that is alone, and while speculating
+abbrev half_of_zero : List Event
+half_of_zero = loads 1 ∷ Map 1 32 1 ∷ stores 1 131072 2048 ∷ []
+
+abbrev half_of_shared : List Event
+half_of_shared = loads 1 ∷ Copy 1 2 ∷ stores 1 67584 2048 ∷ []
+
+abbrev half_of_alone : List Event
+half_of_alone = loads 1 ∷ stores 1 67584 2048 ∷ []
+
+abbrev half_speculating : List Event
+half_speculating = loads 1 ∷ Map 1 32 1 ∷ stores_speculating 1 131072 2048 ∷ []
+
+pub units_half_of_zero : ComesTo half_of_zero 48 0
+unfolding class frame_for with_lines touched touched_between lines_on_page
+units_half_of_zero = (units_are half_of_zero ∙ refl, lines_are half_of_zero ∙ refl)
+
+pub units_half_of_shared : ComesTo half_of_shared 48 0
+unfolding class frame_for with_lines touched touched_between lines_on_page
+units_half_of_shared = (units_are half_of_shared ∙ refl, lines_are half_of_shared ∙ refl)
+
+pub units_half_of_alone : ComesTo half_of_alone 32 0
+unfolding class frame_for with_lines touched touched_between lines_on_page
+units_half_of_alone = (units_are half_of_alone ∙ refl, lines_are half_of_alone ∙ refl)
+
+pub units_half_speculating : ComesTo half_speculating 48 32
+unfolding class frame_for with_lines touched touched_between lines_on_page
+units_half_speculating = (units_are half_speculating ∙ refl, lines_are half_speculating ∙ refl)
+
+-- it gets the least origin that no page has
+pub origin_half_of_shared : holding_at (all_after half_of_shared empty) 1 16 ≡ Some (without_own 2)
+unfolding class frame_for with_lines touched touched_between lines_on_page
+origin_half_of_shared = holding_is half_of_shared 1 16 ∙ refl
+
+-- A store over two zero pages: both are settled, one, or none.
+
+abbrev both_settled : List Event
+both_settled = loads 1 ∷ Map 1 32 2 ∷ stores 1 133120 4096 ∷ []
+
+abbrev one_settled : List Event
+one_settled = loads 1 ∷ Map 1 32 2 ∷ stores 1 133120 4032 ∷ []
+
+abbrev none_settled : List Event
+none_settled = loads 1 ∷ Map 1 32 2 ∷ stores 1 133184 3968 ∷ []
+
+pub units_both_settled : ComesTo both_settled 64 0
+unfolding class frame_for with_lines touched touched_between lines_on_page
+units_both_settled = (units_are both_settled ∙ refl, lines_are both_settled ∙ refl)
+
+pub units_one_settled : ComesTo one_settled 56 31
+unfolding class frame_for with_lines touched touched_between lines_on_page
+units_one_settled = (units_are one_settled ∙ refl, lines_are one_settled ∙ refl)
+
+pub units_none_settled : ComesTo none_settled 48 62
+unfolding class frame_for with_lines touched touched_between lines_on_page
+units_none_settled = (units_are none_settled ∙ refl, lines_are none_settled ∙ refl)
+
+-- pages ascending
+pub origins_both_settled : (holding_at (all_after both_settled empty) 1 32 ≡ Some (without_own 2)) × (holding_at (all_after both_settled empty) 1 33 ≡ Some (without_own 3))
+unfolding class frame_for with_lines touched touched_between lines_on_page
+origins_both_settled = (holding_is both_settled 1 32 ∙ refl, holding_is both_settled 1 33 ∙ refl)
+
+-- A page of a few own lines that comes to be alone keeps them, whatever is stored; commit takes them.
+
+abbrev alone_with_line : List Event
+alone_with_line = loads 1 ∷ Copy 1 2 ∷ stores 1 67584 1 ∷ Drop 2 ∷ stores 1 65536 4096 ∷ []
+
+pub units_alone_with_line : ComesTo alone_with_line 33 1
+unfolding class frame_for with_lines touched touched_between lines_on_page
+units_alone_with_line = (units_are alone_with_line ∙ refl, lines_are alone_with_line ∙ refl)
+
+pub units_alone_committed : ComesTo (alone_with_line ++ (Commit 1 ∷ [])) 32 0
+unfolding class frame_for with_lines touched touched_between lines_on_page
+units_alone_committed = (units_are (alone_with_line ++ (Commit 1 ∷ [])) ∙ refl, lines_are (alone_with_line ++ (Commit 1 ∷ [])) ∙ refl)

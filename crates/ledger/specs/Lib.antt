@@ -18,6 +18,8 @@ pub mod AlikeUnits
 pub mod RowLaws
 pub mod TallyLaws
 pub mod StoreLaws
+pub mod LargeLaws
+pub mod TwoSteps
 pub mod CopyLaws
 pub mod Written
 pub mod Examples

@@ -1,8 +1,8 @@
-use Rattle.std.proofs.Common.{◌≡◌, ℕ, ◌==◌, ◌||◌, Bool, true, false, cond, List, [], ◌∷◌, Option, Some, None, sym, ap, ◌∙◌, refl, eqb-true}
+use Rattle.std.proofs.Common.{◌≡◌, ℕ, ◌-◌, ◌^◌, ◌==◌, ◌||◌, Bool, true, false, cond, List, [], ◌∷◌, Option, Some, None, sym, ap, ◌∙◌, refl, eqb-true}
 use Rattle.ovl_io.specs.Memory.{Access, Memory, denied_at}
 use Rattle.rv_execute.specs.Registers.{Registers, register}
 use Rattle.rv_execute.specs.Calls.{load_at}
-use Rattle.rv_execute.specs.Step.{Request, answered, bad_descriptor, buffered, exit, no_such_request, request, write, write_count}
+use Rattle.rv_execute.specs.Step.{Request, answered, buffered, exit, request, write, write_count}
 use Rattle.translation_cache.specs.Bare.{BareTranslations}
 use Rattle.translation_cache.specs.Counted.{counted}
 use Rattle.translation_cache.specs.CountedLaws.{access_of_none, counted_none, counted_one}
@@ -33,14 +33,14 @@ module _ (p : ℕ) (regs : Registers) (memory : Memory) (t : BareTranslations) w
   write_beside d is one two =
       let tests : ((register regs 10 == 1) || (register regs 10 == 2)) ≡ false =
       λ i. not_equal (register regs 10) 1 (λ h. one (is ∙ h)) i || not_equal (register regs 10) 2 (λ h. two (is ∙ h)) i in
-      sym (ap (λ b. counted p memory (cond b (buffered (denied_at memory buffer) (write_count regs) regs memory (buffer ∷ [])) (answered bad_descriptor regs [])).accesses t) tests
+      sym (ap (λ b. counted p memory (cond b (buffered (denied_at memory buffer) (write_count regs) regs memory (buffer ∷ [])) (answered (2 ^ 64 - 9) regs [])).accesses t) tests
       ∙ counted_none p memory t)
 
   -- a write of no bytes
   pub write_none : write_count regs ≡ 0 → t ≡ counted p memory (write regs memory).accesses t
   write_none none = by_test ((register regs 10 == 1) || (register regs 10 == 2))
     where
-      by_test : (b : Bool) → t ≡ counted p memory (cond b (buffered (denied_at memory buffer) (write_count regs) regs memory (buffer ∷ [])) (answered bad_descriptor regs [])).accesses t
+      by_test : (b : Bool) → t ≡ counted p memory (cond b (buffered (denied_at memory buffer) (write_count regs) regs memory (buffer ∷ [])) (answered (2 ^ 64 - 9) regs [])).accesses t
       by_test true =
           sym (ap (λ accesses. counted p memory accesses t) (buffered_accesses (denied_at memory buffer)) ∙ counted_one p memory buffer t
           ∙ access_of_none p memory buffer t none)
@@ -50,7 +50,7 @@ module _ (p : ℕ) (regs : Registers) (memory : Memory) (t : BareTranslations) w
   pub no_write : (n : ℕ) → n ≡ register regs 17 → (n ≡ 64 → ⊥) → t ≡ counted p memory (request p regs memory).accesses t
   no_write n is other =
       let rest = cond ((register regs 17 == 93) || (register regs 17 == 94)) (exit regs)
-      (cond (register regs 17 == 172) (answered p regs []) (answered no_such_request regs [])) in
+      (cond (register regs 17 == 172) (answered p regs []) (answered (2 ^ 64 - 38) regs [])) in
       let silent : rest.accesses ≡ [] =
       printed_accesses ((register regs 17 == 93) || (register regs 17 == 94)) _ _ [] refl (printed_accesses (register regs 17 == 172) _ _ [] refl refl) in
       sym (ap (λ b. counted p memory (cond b (write regs memory) rest).accesses t) (not_equal (register regs 17) 64 (λ h. other (is ∙ h)))

@@ -1,1 +1,2 @@
 mod Awaiting
+pub mod Small

@@ -1,7 +1,7 @@
-use Rattle.std.proofs.Common.{◌≡◌, ℕ, Bool, true, false, cond, List, [], ◌∷◌, Some, sym, ap, subst, ◌∙◌, refl}
+use Rattle.std.proofs.Common.{◌≡◌, ℕ, Bool, true, false, cond, not, ◌&&◌, List, [], ◌∷◌, Some, sym, ap, subst, ◌∙◌, refl}
 use Rattle.overlay_bits.specs.Lines.{AreLines, has_line}
 use Rattle.ledger.specs.Ledger.{Ledger, is_alone, with_page}
-use Rattle.ledger.specs.Changes.{joined}
+use Rattle.ledger.specs.Changes.{is_large, joined}
 use Rattle.ledger.specs.Events.{Store, ledger_after}
 use Rattle.ledger.specs.PlaceLaws.{put_again}
 use Rattle.ledger.specs.StoreLaws.{joined_there, store_joins, store_nothing}
@@ -9,6 +9,8 @@ use Rattle.overlay_pages.specs.State.{PageState, State, base_of, books, held_pag
 use Rattle.overlay_pages.specs.Changes.{brought, is_writable, with_brought, writes_frame}
 use Rattle.overlay_memory.specs.PageLaws.{held_there}
 use Rattle.overlay_memory.specs.Pieces.{KeepsAllElse}
+use Rattle.overlay_memory.specs.SmallLaws.{none_large}
+use Rattle.overlay_memory.specs.View.{AreOverlaysSmall}
 use Rattle.overlay_memory.proofs.Joining.{joined_has, with_own_line}
 use Rattle.overlay_memory.specs.StateMemory.{alone_kept, base_kept, beside_put, beside_same, memory_kept, writable_at, writable_same, writes_same}
 use Rattle.space_maps.specs.Books.{books_put_page}
@@ -37,11 +39,12 @@ brings : (v : State) (s p : ℕ) (lines : List ℕ) (x : PageState) → page_in 
 unfolding with_brought
 brings v s p lines x there frame = ap (λ b. cond b v (altered_page (brought lines) v s p)) frame ∙ changed_there (brought lines) v s p x there
 
+-- The ledger with lines joined: it stays where the frame is written.
+abbrev pub joined_books : State → ℕ → ℕ → List ℕ → Ledger
+joined_books v s p lines = cond (writes_frame v s p) (books v) (joined (books v) s p lines)
+
 -- a page that is there, in a space of a mark
 module _ (v : State) (s p : ℕ) (lines : List ℕ) (x : PageState) (there : page_in v s p ≡ Some x) where
-  abbrev row : Ledger
-  row = ledger_after (Store (space_in v s).speculating s ((p, lines) ∷ [])) (books v)
-
   -- what holds of the state as it is, and of it with the page put, holds of it with the lines brought
   by_frame : (P : State → Type 0) → (writes_frame v s p ≡ true → P v) → (writes_frame v s p ≡ false → P (put_page v s p (brought lines x)))
       → P (with_brought v s p lines)
@@ -51,15 +54,15 @@ module _ (v : State) (s p : ℕ) (lines : List ℕ) (x : PageState) (there : pag
       at true frame = subst P (sym (brings_nothing v s p lines frame)) (as_is frame)
       at false frame = subst P (sym (brings v s p lines x there frame)) (put frame)
 
-  pub brought_one : HasBrought v (with_brought v s p lines) s row
-  brought_one = by_frame (λ new. HasBrought v new s row)
-      (λ frame. record { memory = refl; base = refl; ledger = sym (store_nothing (space_in v s).speculating (books v) s p lines frame); beside = beside_same v s })
+  pub brought_one : HasBrought v (with_brought v s p lines) s (joined_books v s p lines)
+  brought_one = by_frame (λ new. HasBrought v new s (joined_books v s p lines))
+      (λ frame. record { memory = refl; base = refl; ledger = sym (ap (λ b. cond b (books v) (joined (books v) s p lines)) frame); beside = beside_same v s })
       (λ frame. record {
         memory = memory_kept v s p (brought lines x) x there refl;
         base = base_kept v s p (brought lines x) x there refl;
         ledger =
             books_put_page held_page v s p (brought lines x)
-            ∙ sym (store_joins (space_in v s).speculating (books v) s p lines frame ∙ joined_there (books v) s p lines (held_page v.zero_frame x) (held_there v s p x there));
+            ∙ sym (ap (λ b. cond b (books v) (joined (books v) s p lines)) frame ∙ joined_there (books v) s p lines (held_page v.zero_frame x) (held_there v s p x there));
         beside = beside_put v s p (brought lines x) x there refl;
       })
 
@@ -89,39 +92,25 @@ module _ (v : State) (s p : ℕ) (lines : List ℕ) (x : PageState) (there : pag
       same true = refl
       same false = refl
 
--- a page had lines brought
-abbrev pub brought_first : State → ℕ → ℕ → List ℕ → State
-brought_first v s p lines = with_brought v s p lines
-
--- and then another one
-
-module _ (v : State) (s p q : ℕ) (lines more : List ℕ) (x y : PageState) (there : page_in v s p ≡ Some x) (also : page_in v s q ≡ Some y) (other : q ≡ p → ⊥) where
-  abbrev first : State
-  first = with_brought v s p lines
-
-  abbrev both_rows : Ledger
-  both_rows = ledger_after (Store (space_in v s).speculating s ((p, lines) ∷ ((q, more) ∷ []))) (books v)
-
-  -- the second page joins its lines in the ledger after the first, and is alone where it was before
-  pub rows_are : ledger_after (Store (space_in first s).speculating s ((q, more) ∷ [])) (books first) ≡ both_rows
-  rows_are =
-      let it = brought_one v s p lines x there in
-      ap (λ w. cond w (books first) (joined (books first) s q more)) (brought_frames v s p lines x there q)
-      ∙ ap (λ l. cond (writes_frame v s q) l (joined l s q more)) it.ledger
-
--- a line that can be written where it stands needs nothing
-pub joins_nothing : (v : State) (s p line : ℕ) (x : PageState) → page_in v s p ≡ Some x → AreLines x.own → is_writable v s p line ≡ true
+-- a line that can be written where it stands needs nothing, of a page that is small where the space isn't speculating
+pub joins_nothing : (v : State) (s p line : ℕ) (x : PageState) → page_in v s p ≡ Some x → AreLines x.own → AreOverlaysSmall v → is_writable v s p line ≡ true
     → ledger_after (Store (space_in v s).speculating s ((p, line ∷ []) ∷ [])) (books v) ≡ books v
-joins_nothing v s p line x there are can = at (writes_frame v s p) refl
+joins_nothing v s p line x there are small can = at (writes_frame v s p) refl
   where
     own_line : (a b : Bool) → b ≡ false → cond a true b ≡ true → a ≡ true
     own_line true b none is = refl
     own_line false b none is = sym none ∙ is
 
+    stays : (b : Bool) → (space_in v s).speculating ≡ b → (not b && is_large (books v) s p) ≡ false
+    stays true on = refl
+    stays false off = none_large v s small off p
+
     at : (b : Bool) → writes_frame v s p ≡ b → ledger_after (Store (space_in v s).speculating s ((p, line ∷ []) ∷ [])) (books v) ≡ books v
     at true frame = store_nothing (space_in v s).speculating (books v) s p (line ∷ []) frame
     at false frame =
         let has = own_line (has_line x.own line) (writes_frame v s p) frame (sym (writable_at v s p line x there) ∙ can) in
-        store_joins (space_in v s).speculating (books v) s p (line ∷ []) frame ∙ joined_there (books v) s p (line ∷ []) (held_page v.zero_frame x) (held_there v s p x there)
+        let joins = joined_there (books v) s p (line ∷ []) (held_page v.zero_frame x) (held_there v s p x there)
         ∙ ap (λ o. with_page (books v) s p (record { origin = (held_page v.zero_frame x).origin; own = o })) (with_own_line x.own line are has)
-        ∙ put_again (books v) s p (held_page v.zero_frame x) (held_there v s p x there)
+        ∙ put_again (books v) s p (held_page v.zero_frame x) (held_there v s p x there) in
+        store_joins (space_in v s).speculating (books v) s p (line ∷ []) frame
+        (ap (λ l. not (space_in v s).speculating && is_large l s p) joins ∙ stays (space_in v s).speculating refl) ∙ joins

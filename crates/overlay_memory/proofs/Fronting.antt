@@ -27,6 +27,7 @@ use Rattle.overlay_pages.specs.ViewLaws.{state_page_there}
 use Rattle.overlay_pages.specs.declared.spots.FoundLine.{FoundLine}
 use Rattle.overlay_pages.specs.declared.spots.FoundPage.{FoundPage}
 use Rattle.space_ledger.specs.View.{LedgerView}
+use Rattle.space_maps.specs.Options.{map_twice}
 use Rattle.space_maps.specs.Spaces.{page_in}
 use Rattle.translation_cache.specs.Bare.{BareTranslations, bare}
 use Rattle.translation_cache.specs.Counted.{translated}
@@ -87,6 +88,13 @@ unfolding page_state
 held_there view s p found at =
     sym (ap (option_map cached_page) (page_there view s p found at)
     ∙ (λ i. Some (record { perms = at.is.perms i; frame = at.is.frame i; bits = at.is.own i })))
+
+-- and its own lines
+pub own_there : (view : MemoryView) (s p : ℕ) (found : FoundPage) → IsFoundPageAt view s p found
+    → option_map (λ (x : PageState). x.own) (page_in (state_of view) s p) ≡ Some found.own
+own_there view s p found at =
+    sym (map_twice (λ (c : Cached). c.bits) cached_page (λ (x : PageState). x.own) (page_in (state_of view) s p) (λ x e. refl))
+    ∙ sym (ap (option_map (λ (c : Cached). c.bits)) (held_there view s p found at))
 
 mapped_there : (view : MemoryView) (s p : ℕ) (found : FoundPage) → IsFoundPageAt view s p found → is_some (get (memory_of (state_of view) s) p) ≡ true
 mapped_there view s p found at = ap is_some (memory_at (state_of view) s p ∙ ap (option_map seen_page) (page_there view s p found at))

@@ -3,6 +3,9 @@ use Rattle.std.specs.Prelude.{Err, IsSome, is_some}
 use Rattle.sizes.specs.declared.TheConstants.{LINE_BYTES, PAGE_BYTES, PAGE_LINES}
 use Rattle.ovl_io.specs.Permissions.{permits, writable}
 use Rattle.overlay_bits.specs.Lines.{has_line}
+use Rattle.ledger.specs.Alike.{AreAlike}
+use Rattle.ledger.specs.AlikeLaws.{alike_itself}
+use Rattle.ledger.specs.Changes.{is_large}
 use Rattle.ledger.specs.Events.{Store, ledger_after}
 use Rattle.ledger.specs.Ledger.{Ledger}
 use Rattle.ledger.specs.Units.{units}
@@ -14,16 +17,21 @@ use Rattle.overlay_pages.specs.declared.spots.FoundPage.{FoundPage}
 use Rattle.overlay_memory.specs.declared.error.MemoryError.TheVariants.{Full}
 use Rattle.overlay_memory.specs.declared.error.Shortage.{Shortage}
 use Rattle.overlay_memory.specs.Access.{FitsStored, IsAllowed, IsStored, Stores, stored_books}
-use Rattle.overlay_memory.specs.Pieces.{AreWritable, IsFilled, IsPermitted, lines_under}
+use Rattle.overlay_memory.specs.Pieces.{AreWritable, IsFilled, IsPermitted, Settles, lines_under}
 use Rattle.overlay_memory.specs.Room.{IsShort}
+use Rattle.overlay_memory.specs.View.{AreOverlaysSmall, NoneAwaits}
+use Rattle.overlay_memory.specs.CountLaws.{has_lines}
+use Rattle.overlay_memory.specs.SmallLaws.{few_not_large, large_is}
 use Rattle.overlay_memory.specs.StateMemory.{still_there}
-use Rattle.overlay_memory.proofs.Bringing.{HasBrought, brought_none, brought_one, brought_writable, joins_nothing}
-use Rattle.overlay_memory.proofs.Fronting.{at_address, may_be_used, of_address}
+use Rattle.overlay_memory.proofs.Bringing.{HasBrought, brought_none, brought_one, brought_writable, joined_books, joins_nothing}
+use Rattle.overlay_memory.proofs.Fronting.{at_address, may_be_used, of_address, own_there}
 use Rattle.overlay_memory.proofs.Joining.{has_under, one_under}
 use Rattle.overlay_memory.proofs.Pieced.{permitted}
+use Rattle.overlay_memory.proofs.Settled.{has_settled, row, row_units, settled_none, settled_row, settles_later, settles_none}
 use Rattle.overlay_memory.proofs.Stored.{IsDone, full_store, stored_by}
 use Rattle.overlay_memory.proofs.Touching.{touched_one}
 use Rattle.overlay_memory.proofs.Views.{own_set}
+use Rattle.space_maps.specs.Options.{by_test}
 use Rattle.space_maps.specs.Spaces.{page_in, space_in}
 
 -- Stores whose bytes lie in one page.
@@ -36,11 +44,11 @@ row_of_one v s address n some fits =
     (touched_one address n (address / 4096) (address % 4096) some (omega arith) fits)
 
 -- bytes of a line that can be written where it stands
-pub stored_in_line : (view : MemoryView) (c : State) (s address : ℕ) (bytes : List ℕ) → IsPermitted view s writable address → 0 < length bytes
+pub stored_in_line : (view : MemoryView) (c : State) (s address : ℕ) (bytes : List ℕ) → AreOverlaysSmall (state_of view) → IsPermitted view s writable address → 0 < length bytes
     → address % LINE_BYTES + length bytes ≤ LINE_BYTES → is_writable (state_of view) s (address / PAGE_BYTES) (address / LINE_BYTES % PAGE_LINES) ≡ true
     → IsFilled (state_of view) c s (PAGE_BYTES * (address / PAGE_BYTES) + (LINE_BYTES * (address / LINE_BYTES % PAGE_LINES) + address % LINE_BYTES)) bytes
     → IsDone view c s address bytes
-stored_in_line view c s address bytes may some fits can filled =
+stored_in_line view c s address bytes small may some fits can filled =
     let v = state_of view in
     let p = address / 4096 in
     let line = address / 64 % 64 in
@@ -50,9 +58,10 @@ stored_in_line view c s address bytes may some fits can filled =
     row_of_one v s address n some (omega (arith, fits))
     ∙ ap (λ l. ledger_after (Store (space_in v s).speculating s ((p, l) ∷ [])) (books v))
     (one_under (address % 4096) n line some (omega arith) (omega (arith, fits)))
-    ∙ joins_nothing v s p line may.page may.there (own_set view s p may.page may.joined may.there) can in (
+    ∙ joins_nothing v s p line may.page may.there (own_set view s p may.page may.joined may.there) small can in
+    let put : IsFilled v c s address bytes = subst (λ a. IsFilled v c s a bytes) place filled in (
       permitted view s writable address n may (omega (arith, fits)),
-      stored_by v v c s address bytes (books v) row (brought_none v s) (subst (λ a. IsFilled v c s a bytes) place filled),
+      stored_by v v c c s address bytes (books v) (books v) some row (brought_none v s) put (settled_none c s p) (subst (AreAlike (books c)) put.ledger (alike_itself (books c))),
     )
 
 -- bytes in one page that is there, with the lines under them
@@ -76,28 +85,31 @@ module _ {v : State} {s address : ℕ} {lines bytes : List ℕ} (it : IsInOne v 
   page = address / PAGE_BYTES
 
   -- the ledger after it, and the state with its lines brought
-  abbrev row : Ledger
-  row = ledger_after (Store (space_in v s).speculating s ((page, lines) ∷ [])) (books v)
+  abbrev after : Ledger
+  after = row v s page lines it.page it.there
 
   abbrev brought : State
   brought = with_brought v s page lines
 
-  pub row_is : stored_books v s address (length bytes) ≡ row
+  pub row_is : stored_books v s address (length bytes) ≡ after
   row_is =
       row_of_one v s address (length bytes) it.some it.fits
       ∙ ap (λ l. ledger_after (Store (space_in v s).speculating s ((page, l) ∷ [])) (books v)) (sym it.under)
 
-  brought_is : HasBrought v brought s row
+  brought_is : HasBrought v brought s (joined_books v s page lines)
   brought_is = brought_one v s page lines it.page it.there
+
+  brought_units : units after ≡ units_of brought
+  brought_units = row_units v s page lines it.page it.there ∙ sym (ap units brought_is.ledger)
 
   -- the units after it, told by the state with the lines brought
   pub one_needs : (needed : ℕ) → units_of brought ≡ needed → units (stored_books v s address (length bytes)) ≡ needed
-  one_needs needed is = ap units row_is ∙ sym (ap units brought_is.ledger) ∙ is
+  one_needs needed is = ap units row_is ∙ brought_units ∙ is
 
   pub one_fits : FitsStored v s address (length bytes) → Fits brought
   one_fits room =
-      let after = ap units brought_is.ledger ∙ sym (ap units row_is) in
-      omega (arith, after, room, brought_is.beside.frames)
+      let same = ap units row_is ∙ brought_units in
+      omega (arith, same, room, brought_is.beside.frames)
 
   pub one_there : (b : State) → b ≡ brought → IsSome (page_in b s page)
   one_there b is = ap (λ w. is_some (page_in w s page)) is ∙ still_there v brought s page brought_is.beside (ap is_some it.there)
@@ -108,10 +120,24 @@ module _ {v : State} {s address : ℕ} {lines bytes : List ℕ} (it : IsInOne v 
       ∙ brought_writable v s page lines it.page it.there line
       (ap (λ l. has_line l line) it.under ∙ has_under (address % 4096) (length bytes) line it.some low high)
 
-  pub one_stored : (b c : State) → b ≡ brought → IsFilled b c s (PAGE_BYTES * page + address % PAGE_BYTES) bytes → IsStored v c s address bytes
-  one_stored b c is filled =
-      let place : 4096 * page + address % 4096 ≡ address = omega arith in
-      stored_by v b c s address bytes row row_is (subst (λ w. HasBrought v w s row) (sym is) brought_is) (subst (λ a. IsFilled b c s a bytes) place filled)
+  -- bytes were put then
+  module _ (b c : State) (b_is : b ≡ brought) (filled : IsFilled b c s (PAGE_BYTES * page + address % PAGE_BYTES) bytes) where
+    put : IsFilled brought c s address bytes
+    put =
+        let place : 4096 * page + address % 4096 ≡ address = omega arith in
+        subst (λ w. IsFilled w c s address bytes) b_is (subst (λ a. IsFilled b c s a bytes) place filled)
+
+    pub put_there : IsSome (page_in c s page)
+    put_there = still_there brought c s page put.beside (still_there v brought s page brought_is.beside (ap is_some it.there))
+
+    pub put_awaits : NoneAwaits v s → NoneAwaits c s
+    put_awaits none = put.beside.awaiting ∙ brought_is.beside.awaiting ∙ none
+
+    -- and what comes of the page
+    pub one_stored : (d : State) → Settles c d s page → IsStored v d s address bytes
+    one_stored d settles =
+        stored_by v brought c d s address bytes (joined_books v s page lines) after it.some row_is brought_is put (has_settled c d s page settles put_there)
+        (settled_row v s page lines it.page it.there c d (put.ledger ∙ brought_is.ledger) (put.beside.mark ∙ brought_is.beside.mark) settles put_there)
 
 -- Bytes of one line of a page that was found, where the line is brought before they are put.
 pub record IsApart (view : MemoryView) (s address line : ℕ) (page : FoundPage) (bytes : List ℕ) : Type 0 where
@@ -169,12 +195,41 @@ module _ {view : MemoryView} {s address line : ℕ} {page : FoundPage} {bytes : 
     pub line_writable : is_writable mid s (address / PAGE_BYTES) (address / LINE_BYTES % PAGE_LINES) ≡ true
     line_writable = one_writable it.one mid here (address / 64 % 64) (omega (arith, it.one.some)) (omega arith)
 
-    pub line_stored : (after : State) → IsFilled mid after s (PAGE_BYTES * (address / PAGE_BYTES) + (LINE_BYTES * (address / LINE_BYTES % PAGE_LINES) + address % LINE_BYTES)) bytes
-        → IsDone view after s address bytes
-    line_stored after filled =
-        let place : 4096 * (address / 4096) + (64 * (address / 64 % 64) + address % 64) ≡ 4096 * (address / 4096) + address % 4096 = omega arith in
-        (allowed, one_stored it.one mid after here (subst (λ a. IsFilled mid after s a bytes) place filled))
+    module _ (c : State) (filled : IsFilled mid c s (PAGE_BYTES * (address / PAGE_BYTES) + (LINE_BYTES * (address / LINE_BYTES % PAGE_LINES) + address % LINE_BYTES)) bytes) where
+      put_in : IsFilled mid c s (PAGE_BYTES * (address / PAGE_BYTES) + address % PAGE_BYTES) bytes
+      put_in =
+          let place : 4096 * (address / 4096) + (64 * (address / 64 % 64) + address % 64) ≡ 4096 * (address / 4096) + address % 4096 = omega arith in
+          subst (λ a. IsFilled mid c s a bytes) place filled
+
+      pub filled_there : IsSome (page_in c s (address / PAGE_BYTES))
+      filled_there = put_there it.one mid c here put_in
+
+      pub filled_awaits : NoneAwaits (state_of view) s → NoneAwaits c s
+      filled_awaits = put_awaits it.one mid c here put_in
+
+      pub line_stored : (after : State) → Settles c after s (address / PAGE_BYTES) → IsDone view after s address bytes
+      line_stored after settles = (allowed, one_stored it.one mid c here put_in after settles)
+
+      mark : (space_in c s).speculating ≡ (space_in (state_of view) s).speculating
+      mark = filled.beside.mark ∙ ap (λ w. (space_in w s).speculating) here
+          ∙ (brought_one (state_of view) s (address / PAGE_BYTES) (address / LINE_BYTES % PAGE_LINES ∷ []) it.one.page it.one.there).beside.mark
 
   -- the page as it is found then
   pub brought_at : (mid : MemoryView) (found : FoundPage) → IsBroughtTo view.table mid.table page line found → IsFoundPageAt mid s (address / PAGE_BYTES) found
   brought_at mid found to = record { space_is = to.space_is ∙ it.at.space_is; page_is = to.page_is ∙ it.at.page_is; is = to.is }
+
+  -- Where the overlay didn't grow, its page isn't to be settled.
+  module _ (small : AreOverlaysSmall (state_of view)) (mid : MemoryView) (found : FoundPage) (to : IsBroughtTo view.table mid.table page line found)
+      (mid_is : state_of mid ≡ with_brought (state_of view) page.space page.page (line ∷ [])) (c : State)
+      (filled : IsFilled (state_of mid) c s (PAGE_BYTES * (address / PAGE_BYTES) + (LINE_BYTES * (address / LINE_BYTES % PAGE_LINES) + address % LINE_BYTES)) bytes) where
+    few_before : (space_in c s).speculating ≡ false → length page.own ≤ 31
+    few_before off =
+        let h = has_lines (state_of view) s (address / PAGE_BYTES) page.own (own_there view s (address / PAGE_BYTES) page it.at) in
+        subst (λ (l : List ℕ). length l ≤ 31) h.own_is (small s (address / PAGE_BYTES) h.x h.there (sym (mark (state_of mid) mid_is c filled) ∙ off))
+
+    pub line_stays : Settles c c s (address / PAGE_BYTES)
+    line_stays = by_test (space_in c s).speculating (settles_later c s (address / PAGE_BYTES)) (λ off.
+        settles_none c s (address / PAGE_BYTES)
+        (ap (λ l. is_large l s (address / PAGE_BYTES)) filled.ledger
+        ∙ large_is (state_of mid) s (address / PAGE_BYTES) found.own (length found.own) (own_there mid s (address / PAGE_BYTES) found (brought_at mid found to)) refl
+        ∙ few_not_large (length found.own) (to.small (few_before off))))

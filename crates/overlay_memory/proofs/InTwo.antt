@@ -1,4 +1,4 @@
-use Rattle.std.proofs.Common.{◌≡◌, ℕ, ◌+◌, ◌-◌, ◌/◌, ◌%◌, ◌<◌, ◌≤◌, List, [], ◌∷◌, ◌++◌, length, take, drop, Some, sym, ap, subst, ◌∙◌, refl, arith, length-drop}
+use Rattle.std.proofs.Common.{◌≡◌, ℕ, ◌+◌, ◌-◌, ◌/◌, ◌%◌, ◌<◌, ◌≤◌, List, [], ◌∷◌, ◌++◌, length, take, drop, sym, ap, subst, ◌∙◌, refl, arith, length-drop}
 use Rattle.std.specs.Prelude.{Err, IsSome, is_some}
 use Rattle.std.proofs.lemmas.List.{length-take-le, take-append-drop}
 use Rattle.sizes.specs.declared.TheConstants.{PAGE_BYTES}
@@ -7,7 +7,8 @@ use Rattle.ovl_io.specs.Permissions.{writable}
 use Rattle.ledger.specs.Alike.{AreAlike}
 use Rattle.ledger.specs.AlikeUnits.{units_alike}
 use Rattle.ledger.specs.Events.{Store, ledger_after}
-use Rattle.ledger.specs.RowLaws.{alike_after}
+use Rattle.ledger.specs.Ledger.{Ledger}
+use Rattle.ledger.specs.StoreLaws.{store_next}
 use Rattle.ledger.specs.Units.{units}
 use Rattle.overlay_pages.specs.State.{State, books, memory_of}
 use Rattle.overlay_pages.specs.Changes.{limit_of, units_of}
@@ -15,11 +16,11 @@ use Rattle.overlay_pages.specs.Calls.{RisesBy}
 use Rattle.overlay_pages.specs.View.{MemoryView, state_of}
 use Rattle.overlay_memory.specs.declared.error.MemoryError.TheVariants.{Full}
 use Rattle.overlay_memory.specs.declared.error.Shortage.{Shortage}
+use Rattle.overlay_memory.specs.ApartLaws.{ArePagesApart, origins_apart}
 use Rattle.overlay_memory.specs.Access.{FitsStored, IsAllowed, IsStored, Stores, stored_books}
 use Rattle.overlay_memory.specs.Pieces.{IsPermitted, lines_under}
 use Rattle.overlay_memory.specs.Room.{IsShort}
 use Rattle.overlay_memory.specs.StateMemory.{same_pages}
-use Rattle.overlay_memory.proofs.Bringing.{brought_first, brought_one, rows_are}
 use Rattle.overlay_memory.proofs.InOne.{row_of_one}
 use Rattle.overlay_memory.proofs.Pieced.{permitted}
 use Rattle.overlay_memory.proofs.Stored.{IsDone, full_store, stored_more}
@@ -70,9 +71,6 @@ module _ {view : MemoryView} {s address front : ℕ} {lines more bytes : List �
   begins : (address + front) % PAGE_BYTES ≡ 0
   begins = omega (arith, it.whole)
 
-  next_there : page_in v s next ≡ Some it.also.page
-  next_there = sym (ap (page_in v s) next_is) ∙ it.also.there
-
   pub first_count : length first_bytes ≡ front
   first_count = length-take-le front bytes (omega (arith, it.over))
 
@@ -86,11 +84,13 @@ module _ {view : MemoryView} {s address front : ℕ} {lines more bytes : List �
       (permitted view s writable (address + front) (length bytes - front) it.also (omega (arith, it.whole, it.over, it.few)))
 
   -- the ledger after the bytes of one page, and after those of the next
-  first_row : stored_books v s address front ≡ books (brought_first v s page lines)
+  abbrev first_books : Ledger
+  first_books = ledger_after (Store (space_in v s).speculating s ((page, lines) ∷ [])) (books v)
+
+  first_row : stored_books v s address front ≡ first_books
   first_row =
       row_of_one v s address front (omega (arith, it.whole)) (omega (arith, it.whole))
       ∙ ap (λ l. ledger_after (Store (space_in v s).speculating s ((page, l) ∷ [])) (books v)) (sym it.under)
-      ∙ sym (brought_one v s page lines it.may.page it.may.there).ledger
 
   row_is : stored_books v s address (length bytes)
       ≡ ledger_after (Store (space_in v s).speculating s ((page, lines) ∷ ((next, more) ∷ []))) (books v)
@@ -118,11 +118,11 @@ module _ {view : MemoryView} {s address front : ℕ} {lines more bytes : List �
 
   pub first_fits : (one two : ℕ) → RisesBy v s page lines one → units_of v + (one + two) ≤ limit_of v → FitsStored v s address (length first_bytes)
   first_fits one two first room =
-      let row = ap units (ap (stored_books v s address) first_count ∙ first_row ∙ (brought_one v s page lines it.may.page it.may.there).ledger) in
+      let row = ap units (ap (stored_books v s address) first_count ∙ first_row) in
       omega (arith, row, first.one, room)
 
   -- the bytes of one page are stored, and then those of the next
-  module _ (b : State) (one : IsStored v b s address first_bytes) where
+  module _ (b : State) (apart : ArePagesApart v s) (one : IsStored v b s address first_bytes) where
     pub second_there : IsSome (page_in b s ((address + front) / PAGE_BYTES))
     second_there = same_pages v b s ((address + front) / PAGE_BYTES) one.permissions ∙ ap is_some it.also.there
 
@@ -135,14 +135,10 @@ module _ {view : MemoryView} {s address front : ℕ} {lines more bytes : List �
         ∙ ap (λ at. ledger_after (Store (space_in b s).speculating s ((next, lines_under at (length bytes - front)) ∷ [])) (books b)) begins
         ∙ ap (λ l. ledger_after (Store (space_in b s).speculating s ((next, l) ∷ [])) (books b)) (sym it.behind)
         ∙ ap (λ m. ledger_after (Store m s ((next, more) ∷ [])) (books b)) one.mark in
-        let like : AreAlike (books b) (books (brought_first v s page lines)) =
-        subst (AreAlike (books b)) (ap (stored_books v s address) first_count ∙ first_row) one.ledger in
+        let like : AreAlike (books b) first_books = subst (AreAlike (books b)) (ap (stored_books v s address) first_count ∙ first_row) one.ledger in
         subst (λ l. AreAlike l (stored_books v s address (length bytes))) (sym after)
-        (subst (AreAlike (ledger_after (Store (space_in v s).speculating s ((next, more) ∷ [])) (books b)))
-        (ap (λ m. ledger_after (Store m s ((next, more) ∷ [])) (books (brought_first v s page lines)))
-        (sym (brought_one v s page lines it.may.page it.may.there).beside.mark)
-        ∙ rows_are v s page next lines more it.may.page it.also.page it.may.there next_there other_page ∙ sym row_is)
-        (alike_after (Store (space_in v s).speculating s ((next, more) ∷ [])) (books b) (books (brought_first v s page lines)) like))
+        (subst (AreAlike (ledger_after (Store (space_in v s).speculating s ((next, more) ∷ [])) (books b))) (sym row_is)
+        (store_next (space_in v s).speculating (books v) (books b) s page next lines more (origins_apart v s apart) other_page like))
 
     pub second_fits : (one two : ℕ) → RisesBy v s page lines one → RisesBy v s next more two → units_of v + (one + two) ≤ limit_of v
         → FitsStored b s (address + front) (length rest)

@@ -7,6 +7,7 @@ pub mod ReadSoFar
 pub mod Filling
 pub mod Bringing
 pub mod Joining
+pub mod Settled
 pub mod Stored
 pub mod Emptied
 pub mod Unmapping

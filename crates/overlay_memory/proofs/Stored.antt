@@ -1,4 +1,4 @@
-use Rattle.std.proofs.Common.{◌≡◌, ℕ, zero, suc, ◌+◌, ◌-◌, ◌*◌, ◌/◌, ◌%◌, ◌≤◌, Bool, true, false, List, [], ◌∷◌, ◌++◌, length, Some, sym, ap, subst, ◌∙◌, refl, arith}
+use Rattle.std.proofs.Common.{◌≡◌, ℕ, zero, suc, ◌+◌, ◌-◌, ◌*◌, ◌/◌, ◌%◌, ◌<◌, ◌≤◌, Bool, true, false, List, [], ◌∷◌, ◌++◌, length, Some, sym, ap, subst, ◌∙◌, refl, arith}
 use Rattle.std.specs.Prelude.{Result, Ok, Err}
 use Rattle.std.specs.FinMap.{get}
 use Rattle.sizes.specs.declared.TheConstants.{LINE_BYTES, PAGE_BYTES}
@@ -22,6 +22,7 @@ use Rattle.overlay_memory.specs.Pieces.{IsFilled, came_of, result_at}
 use Rattle.overlay_memory.specs.Room.{IsShort}
 use Rattle.overlay_memory.specs.StateMemory.{beside_both}
 use Rattle.overlay_memory.proofs.Bringing.{HasBrought}
+use Rattle.overlay_memory.proofs.Settled.{HasSettled}
 use Rattle.overlay_memory.proofs.Filling.{behind_untouched, front_untouched}
 
 -- What a store comes to: lines are brought, and then bytes are put in them.
@@ -51,16 +52,16 @@ stored_none view s address [] none = (
 )
 stored_none view s address (b ∷ bytes) none = absurd (omega (arith, none))
 
--- lines were brought, and then bytes put
-pub stored_by : (a b c : State) (s address : ℕ) (bytes : List ℕ) (after : Ledger) → stored_books a s address (length bytes) ≡ after → HasBrought a b s after
-    → IsFilled b c s address bytes → IsStored a c s address bytes
-stored_by a b c s address bytes after row one two =
-    let beside = beside_both a b c s one.beside two.beside in
+-- lines were brought, bytes were put, and then the page was settled
+pub stored_by : (a b c d : State) (s address : ℕ) (bytes : List ℕ) (joined row : Ledger) → 0 < length bytes → stored_books a s address (length bytes) ≡ row
+    → HasBrought a b s joined → IsFilled b c s address bytes → HasSettled c d s (address / PAGE_BYTES) → AreAlike (books d) row → IsStored a d s address bytes
+stored_by a b c d s address bytes joined row some row_is one two last alike =
+    let beside = beside_both a c d s (beside_both a b c s one.beside two.beside) last.beside in
     record {
-      memory = two.memory ∙ ap (λ m. with_bytes m address bytes) one.memory;
-      ledger = subst (AreAlike (books c)) (two.ledger ∙ one.ledger ∙ sym row) (alike_itself (books c));
-      base = λ on. two.base (one.beside.mark ∙ on) ∙ one.base;
-      bases = λ page far. two.bases page far ∙ ap (λ m. get m page) one.base;
+      memory = last.memory ∙ two.memory ∙ ap (λ m. with_bytes m address bytes) one.memory;
+      ledger = subst (AreAlike (books d)) (sym row_is) alike;
+      base = λ on. last.base (two.beside.mark ∙ one.beside.mark ∙ on) ∙ two.base (one.beside.mark ∙ on) ∙ one.base;
+      bases = λ page far. last.bases page (λ same. let here : address + 0 ≡ address = omega arith in far 0 some (ap (λ a. a / PAGE_BYTES) here ∙ sym same)) ∙ two.bases page far ∙ ap (λ m. get m page) one.base;
       permissions = beside.permissions;
       awaiting = beside.awaiting;
       mark = beside.mark;

@@ -1,31 +1,35 @@
-use Rattle.std.proofs.Common.{◌≡◌, ℕ, zero, suc, ◌+◌, Bool, true, false, List, Option, Some, None, is_some, sym, ap, subst, ◌∙◌, refl, arith}
-use Rattle.std.specs.Prelude.{IsSome, IfSome, Result, Ok, Err}
+use Rattle.std.proofs.Common.{◌≡◌, ℕ, zero, suc, ◌+◌, ◌≤◌, ◌⊎◌, inl, inr, Bool, true, false, List, [], length, Option, Some, None, is_some, sym, ap, subst, ◌∙◌, refl, arith}
+use Rattle.std.specs.Prelude.{IsSome, IfSome, Result, Ok, Err, nat_lt}
+use Rattle.std.proofs.lemmas.Bool.Decides.{nat_tests}
 use Rattle.std.specs.Option.{option_map, option_map_or}
 use Rattle.std.specs.Ordering.{nat_cmp}
 use Rattle.std.specs.FinMap.{empty, get, get-empty, remove}
 use Rattle.number_maps.specs.Keys.{by_key, removed_other, removed_same}
 use Rattle.page_table.specs.declared.entry.PageEntry.{PageEntry}
-use Rattle.page_table.specs.Table.{Pages}
+use Rattle.page_table.specs.Table.{Pages, is_within}
+use Rattle.ledger.specs.LargeLaws.{NoneLarge}
 use Rattle.ledger.specs.Ledger.{Holding, holding_at}
-use Rattle.overlay_pages.specs.Calls.{AreMapped, AreShared, entries_in, with_line_at_place}
+use Rattle.overlay_pages.specs.Calls.{AreMapped, AreShared, AwaitBare, entries_in, with_line_at_place}
 use Rattle.overlay_pages.specs.Calls.AreShared.{Still, Then}
 use Rattle.overlay_pages.specs.Changes.{IsPlaced, with_shared, with_zeros, shared_page, whole_page}
 use Rattle.overlay_pages.specs.Lines.{zero_page}
 use Rattle.overlay_pages.specs.State.{PageState, SpaceState, State, books, held_page}
 use Rattle.overlay_pages.specs.View as seen
 use Rattle.overlay_pages.specs.View.{MemoryView, page_state}
-use Rattle.overlay_pages.specs.ViewLaws.{state_awaiting, state_page, state_page_some}
+use Rattle.overlay_pages.specs.SharedLaws.{own_in, still_bare}
+use Rattle.overlay_pages.specs.ViewLaws.{state_awaiting, state_mark, state_page, state_page_some}
 use Rattle.overlay_memory.specs.Access.{IsStored, Stores}
 use Rattle.overlay_memory.specs.declared.error.MemoryError.{MemoryError}
 use Rattle.overlay_memory.specs.declared.error.MemoryError.TheVariants.{Unmapped, Forbidden, Full}
 use Rattle.overlay_memory.specs.PageLaws.{HasPage, has_page, held_there, some_is}
 use Rattle.overlay_memory.specs.Pieces.{KeepsAllElse, IsFilled, emptied_space}
+use Rattle.overlay_memory.specs.SmallLaws.{small_own, small_stored}
 use Rattle.overlay_memory.specs.StateMemory.{entries_at, same_pages}
-use Rattle.overlay_memory.specs.View.{AreTranslated, AreTrue, AwaitApart, TranslatedView, cached_in, cached_page, state_of, translations_of}
+use Rattle.overlay_memory.specs.View.{AreOverlaysSmall, AreTranslated, AreTrue, AwaitApart, TranslatedView, cached_in, cached_page, state_of, translations_of}
 use Rattle.space_ledger.specs.View.{PageView}
-use Rattle.space_maps.specs.Laws.{KeepsSpaces, are_cut, are_put, changed_there, in_space, keeps_page_put, page_absent, page_added, page_awaited, page_marked, page_of, page_put_beside, page_shared_beside, space_beside, space_left, space_put, there_space}
-use Rattle.space_maps.specs.Options.{none_by}
-use Rattle.space_maps.specs.Spaces.{bare_space, cut_pages, cut_space, holds_space, of_pages, page_in, put_awaiting, put_mark, put_page, put_shared, put_space, space_in, altered_page}
+use Rattle.space_maps.specs.Laws.{KeepsSpaces, are_cut, are_put, changed_there, in_space, keeps_page_put, page_absent, page_added, page_awaited, page_marked, page_of, page_put_beside, page_put_here, page_shared_beside, page_shared_here, space_absent, space_beside, space_left, space_put, there_space}
+use Rattle.space_maps.specs.Options.{by_test, map_from, none_by}
+use Rattle.space_maps.specs.Spaces.{bare_space, cut_pages, cut_space, holds_space, of_pages, page_in, put_awaiting, put_mark, put_page, put_pages, put_shared, put_space, space_in, altered_page}
 use Rattle.translation_cache.specs.Bare.{bare, bare_flushed}
 use Rattle.translation_cache.specs.Finding.{flushed_none, found_flushed, found_none, found_unflushed}
 use Rattle.translation_cache.specs.Formed.{IsFormed}
@@ -92,6 +96,39 @@ pub apart_same : (old new : State) → AwaitApart old → ((q : ℕ) → (space_
     → ((q r : ℕ) → is_some (page_in new q r) ≡ true → is_some (page_in old q r) ≡ true) → AwaitApart new
 apart_same old new apart awaiting pages q r there = ap (λ m. get m r) (awaiting q) ∙ apart q r (pages q r there)
 
+-- Small overlays.
+
+-- what each page is: as it was, or without own lines
+pub small_by : (old new : State) → AreOverlaysSmall old
+    → ((q r : ℕ) (x : PageState) → page_in new q r ≡ Some x → (space_in new q).speculating ≡ false → (length x.own ≤ 31) ⊎ ((page_in old q r ≡ Some x) × ((space_in old q).speculating ≡ false)))
+    → AreOverlaysSmall new
+small_by old new small pages q r x there off = at (pages q r x there off)
+  where
+    at : (length x.own ≤ 31) ⊎ ((page_in old q r ≡ Some x) × ((space_in old q).speculating ≡ false)) → length x.own ≤ 31
+    at (inl few) = few
+    at (inr same) = small q r x same.0 same.1
+
+-- pages of one space changed, and no mark
+pub small_but : (old new : State) (s : ℕ) → AreOverlaysSmall old → ((q : ℕ) → (space_in new q).speculating ≡ (space_in old q).speculating)
+    → ((q r : ℕ) → (q ≡ s → ⊥) → page_in new q r ≡ page_in old q r)
+    → ((r : ℕ) (x : PageState) → page_in new s r ≡ Some x → (length x.own ≤ 31) ⊎ (page_in old s r ≡ Some x)) → AreOverlaysSmall new
+small_but old new s small marks beside here = small_by old new small (λ q r x there off. by_key q s
+    (λ same. with_mark q r x (sym (marks q) ∙ off) same (here r x (sym (ap (λ n. page_in new n r) same) ∙ there)))
+    (λ other. inr (sym (beside q r other) ∙ there, sym (marks q) ∙ off)))
+  where
+    with_mark : (q r : ℕ) (x : PageState) → (space_in old q).speculating ≡ false → q ≡ s → (length x.own ≤ 31) ⊎ (page_in old s r ≡ Some x)
+        → (length x.own ≤ 31) ⊎ ((page_in old q r ≡ Some x) × ((space_in old q).speculating ≡ false))
+    with_mark q r x off same (inl few) = inl few
+    with_mark q r x off same (inr is) = inr (ap (λ n. page_in old n r) same ∙ is, off)
+
+-- a page was put that is small
+pub small_put : (old : State) (s p : ℕ) (x : PageState) → holds_space old s ≡ true → length x.own ≤ 31 → AreOverlaysSmall old → AreOverlaysSmall (put_page old s p x)
+small_put old s p x holds few small = small_but old (put_page old s p x) s small (keeps_page_put old s p x holds).marks
+    (λ q r other. page_put_beside old s p x q r (λ same within. other same))
+    (λ r y there. by_key r p
+    (λ same. inl (subst (λ z. length z.own ≤ 31) (some_is x y (sym (page_put_here old s p x s r refl same) ∙ there)) few))
+    (λ other. inr (sym (page_put_beside old s p x s r (λ one two. other two)) ∙ there)))
+
 -- What each change leaves.
 
 -- the entries of a space were removed
@@ -106,6 +143,7 @@ pub none_translated : (v : State) → v.spaces ≡ empty → AreTranslated v no_
 none_translated v none = record {
   entries = λ q r held is. absurd (no_entry q r held is);
   apart = λ q r there. absurd (no_page q r there);
+  small = λ q r x there off. absurd (no_page q r (ap is_some there));
 }
   where
     no_entry : (q r : ℕ) (x : Cached) → found q r no_translations ≡ Some x → ⊥
@@ -129,6 +167,9 @@ added_translated old new s t is absent all = same_translated (put_space old s ba
       (λ q other. ap (λ (x : SpaceState). x.awaiting) (space_beside old s bare_space q other))
       (λ q r other. page_added old s absent q r)
       (λ r there. none_awaits (put_space old s bare_space) s (ap (λ (x : SpaceState). x.awaiting) (space_put old s bare_space s refl)) r);
+  small = small_by old (put_space old s bare_space) all.small (λ q r x there off. inr (sym (page_added old s absent q r) ∙ there, by_key q s
+      (λ same. ap (λ n. (space_in old n).speculating) same ∙ ap (λ (y : SpaceState). y.speculating) (space_absent old s (none_by (get old.spaces s) absent)))
+      (λ other. ap (λ (y : SpaceState). y.speculating) (sym (space_beside old s bare_space q other)) ∙ off)));
 })
 
 -- a space gone, and one without its pages
@@ -139,6 +180,9 @@ cut_translated old new s t is all = same_translated (cut_space old s) new (flush
   apart =
       apart_by old (cut_space old s) s all.apart (λ q other. ap (λ (x : SpaceState). x.awaiting) (space_left old s q other)) left
       (λ r there. absurd (no_page r there));
+  small = small_by old (cut_space old s) all.small (λ q r x there off. by_key q s
+      (λ same. absurd (no_page r (ap is_some (sym (ap (λ n. page_in (cut_space old s) n r) same) ∙ there))))
+      (λ other. inr (sym (left q r other) ∙ there, ap (λ (y : SpaceState). y.speculating) (sym (space_left old s q other)) ∙ off)));
 })
   where
     left : (q r : ℕ) → (q ≡ s → ⊥) → page_in (cut_space old s) q r ≡ page_in old q r
@@ -160,6 +204,11 @@ emptied_translated old new s t is all = same_translated (put_space old s (of_pag
       (λ q other. ap (λ (x : SpaceState). x.awaiting) (space_beside old s (of_pages (space_in old s) empty) q other))
       (page_beside (of_pages (space_in old s) empty))
       (λ r there. absurd (no_page r there));
+  small = small_by old (put_space old s (of_pages (space_in old s) empty)) all.small (λ q r x there off. by_key q s
+      (λ same. absurd (no_page r (ap is_some (sym (ap (λ n. page_in (put_space old s (of_pages (space_in old s) empty)) n r) same) ∙ there))))
+      (λ other.
+      inr (sym (page_beside (of_pages (space_in old s) empty) q r other) ∙ there,
+      ap (λ (y : SpaceState). y.speculating) (sym (space_beside old s (of_pages (space_in old s) empty) q other)) ∙ off)));
 })
   where
     page_beside : (y : SpaceState) (q r : ℕ) → (q ≡ s → ⊥) → page_in (put_space old s y) q r ≡ page_in old q r
@@ -171,9 +220,10 @@ emptied_translated old new s t is all = same_translated (put_space old s (of_pag
 
 -- pages of a space, of which none awaits, were changed in some way, and its entries removed
 pub settled_translated : (old new : State) (s : ℕ) (t : Translations Cached) → (space_in old s).awaiting ≡ empty
-    → ((q : ℕ) → (space_in new q).awaiting ≡ (space_in old q).awaiting) → ((q r : ℕ) → (q ≡ s → ⊥) → page_in new q r ≡ page_in old q r)
+    → ((q : ℕ) → (space_in new q).awaiting ≡ (space_in old q).awaiting) → ((q r : ℕ) → (q ≡ s → ⊥) → page_in new q r ≡ page_in old q r) → AreOverlaysSmall new
     → AreTranslated old t → AreTranslated new (flushed s t)
-settled_translated old new s t settled awaiting beside all = record {
+settled_translated old new s t settled awaiting beside small all = record {
+  small = small;
   entries = true_flushed old new s t beside all.entries;
   apart = apart_by old new s all.apart (λ q other. awaiting q) beside (λ r there. none_awaits new s (awaiting s ∙ settled) r);
 }
@@ -182,7 +232,7 @@ pub unmapped_translated : (old new : State) (s p n : ℕ) (t : Translations Cach
     → AreMapped old s p n → AreTranslated old t → AreTranslated new (flushed s t)
 unfolding cut_pages
 unmapped_translated old new s p zero t is settled there all = settled_translated old new s t settled
-    (λ q. ap (λ v. (space_in v q).awaiting) (is ∙ none old)) (λ q r other. ap (λ v. page_in v q r) (is ∙ none old)) all
+    (λ q. ap (λ v. (space_in v q).awaiting) (is ∙ none old)) (λ q r other. ap (λ v. page_in v q r) (is ∙ none old)) (subst AreOverlaysSmall (sym (is ∙ none old)) all.small) all
   where
     none : (v : State) → cut_pages v s p zero ≡ v
     none v = refl
@@ -191,7 +241,11 @@ unmapped_translated old new s p (suc n) t is settled there all =
     let cut = are_cut (suc n) p old s (there_space old s (p + 0) at.x at.there) in
     settled_translated old new s t settled
     (λ q. ap (λ v. (space_in v q).awaiting) is ∙ cut.keeps.awaiting q)
-    (λ q r other. ap (λ v. page_in v q r) is ∙ cut.beside q r (λ same within. other same)) all
+    (λ q r other. ap (λ v. page_in v q r) is ∙ cut.beside q r (λ same within. other same))
+    (subst AreOverlaysSmall (sym is) (small_but old (cut_pages old s p (suc n)) s all.small cut.keeps.marks (λ q r other. cut.beside q r (λ same within. other same))
+    (λ r x there. by_test (is_within p (suc n) r)
+    (λ within. let no = sym (cut.here r within) ∙ there in cc)
+    (λ far. inr (sym (cut.beside s r (λ same within. let no = sym far ∙ within in cc)) ∙ there))))) all
 
 pub zeros_translated : (old new : State) (s p n : ℕ) (entry : PageEntry) (t : Translations Cached) → new ≡ with_zeros old s p n entry → holds_space old s ≡ true
     → (space_in old s).awaiting ≡ empty → AreTranslated old t → AreTranslated new (flushed s t)
@@ -200,34 +254,40 @@ zeros_translated old new s p n entry t is holds settled all =
     let put = are_put n p old s (whole_page entry zero_page) holds in
     settled_translated old new s t settled
     (λ q. ap (λ v. (space_in v q).awaiting) is ∙ put.keeps.awaiting q)
-    (λ q r other. ap (λ v. page_in v q r) is ∙ put.beside q r (λ same within. other same)) all
+    (λ q r other. ap (λ v. page_in v q r) is ∙ put.beside q r (λ same within. other same))
+    (subst AreOverlaysSmall (sym is) (small_but old (put_pages old s p n (whole_page entry zero_page)) s all.small put.keeps.marks (λ q r other. put.beside q r (λ same within. other same))
+    (λ r x there. by_test (is_within p n r)
+    (λ within. inl (subst (λ y. length y.own ≤ 31) (some_is (whole_page entry zero_page) x (sym (put.here r within) ∙ there)) (omega arith)))
+    (λ far. inr (sym (put.beside s r (λ same within. let no = sym far ∙ within in cc)) ∙ there))))) all
 
 -- a page put
 put_translated : (old new : State) (s p : ℕ) (x : PageState) (t : Translations Cached) → new ≡ put_page old s p x → holds_space old s ≡ true
-    → (space_in old s).awaiting ≡ empty → AreTranslated old t → AreTranslated new (flushed s t)
-put_translated old new s p x t is holds settled all = settled_translated old new s t settled
+    → (space_in old s).awaiting ≡ empty → length x.own ≤ 31 → AreTranslated old t → AreTranslated new (flushed s t)
+put_translated old new s p x t is holds settled few all = settled_translated old new s t settled
     (λ q. ap (λ v. (space_in v q).awaiting) is ∙ (keeps_page_put old s p x holds).awaiting q)
-    (λ q r other. ap (λ v. page_in v q r) is ∙ page_put_beside old s p x q r (λ same within. other same)) all
+    (λ q r other. ap (λ v. page_in v q r) is ∙ page_put_beside old s p x q r (λ same within. other same))
+    (subst AreOverlaysSmall (sym is) (small_put old s p x holds few all.small)) all
 
-pub copied_translated : (old new : State) (s p : ℕ) (at : PageState → ℕ → PageState) (t : Translations Cached)
+pub copied_translated : (old new : State) (s p : ℕ) (at : PageState → ℕ → PageState) (t : Translations Cached) → ((x : PageState) (frame : ℕ) → (at x frame).own ≡ [])
     → IfSome (page_in old s p) (λ x. IsPlaced old new s p (at x)) → IsSome (page_in old s p) → (space_in old s).awaiting ≡ empty → AreTranslated old t
     → AreTranslated new (flushed s t)
-copied_translated old new s p at t placed there settled all = by_page (page_in old s p) refl placed
+copied_translated old new s p at t bare placed there settled all = by_page (page_in old s p) refl placed
   where
     by_page : (o : Option PageState) → page_in old s p ≡ o → IfSome o (λ x. IsPlaced old new s p (at x)) → AreTranslated new (flushed s t)
     by_page None is h = let no_page = sym there ∙ ap is_some is in cc
-    by_page (Some x) is h = put_translated old new s p (at x h.frame) t h.placed (there_space old s p x is) settled all
+    by_page (Some x) is h = put_translated old new s p (at x h.frame) t h.placed (there_space old s p x is) settled (omega (arith, ap length (bare x h.frame))) all
 
 -- a page placed where none was
-pub placed_translated : (old new : State) (s p : ℕ) (at : ℕ → PageState) (t : Translations Cached) → IsPlaced old new s p at → page_in old s p ≡ None
+pub placed_translated : (old new : State) (s p : ℕ) (at : ℕ → PageState) (t : Translations Cached) → ((frame : ℕ) → (at frame).own ≡ []) → IsPlaced old new s p at → page_in old s p ≡ None
     → holds_space old s ≡ true → (space_in old s).awaiting ≡ empty → AreTranslated old t → AreTranslated new t
-placed_translated old new s p at t placed absent holds settled all =
+placed_translated old new s p at t bare placed absent holds settled all =
     same_translated (put_page old s p (at placed.frame)) new t placed.placed (record {
       entries = true_kept old (put_page old s p (at placed.frame)) t
           (λ q r x there. page_put_beside old s p (at placed.frame) q r (λ one two. absurd (elsewhere q r x there one two)) ∙ there) all.entries;
       apart = apart_by old (put_page old s p (at placed.frame)) s all.apart (λ q other. keeps.awaiting q)
           (λ q r other. page_put_beside old s p (at placed.frame) q r (λ same within. other same))
           (λ r there. none_awaits (put_page old s p (at placed.frame)) s (keeps.awaiting s ∙ settled) r);
+      small = small_put old s p (at placed.frame) holds (omega (arith, ap length (bare placed.frame))) all.small;
     })
   where
     keeps : KeepsSpaces old (put_page old s p (at placed.frame))
@@ -237,12 +297,13 @@ placed_translated old new s p at t placed absent holds settled all =
     elsewhere q r x there one two = let none = ap is_some (sym there ∙ ap (λ n. page_in old n r) one ∙ ap (page_in old s) two ∙ absent) in cc
 
 -- a page changed
-pub altered_translated : (f : PageState → PageState) (old new : State) (s p : ℕ) (t : Translations Cached) → new ≡ altered_page f old s p → IsSome (page_in old s p)
+pub altered_translated : (f : PageState → PageState) → ((x : PageState) → (f x).own ≡ []) → (old new : State) (s p : ℕ) (t : Translations Cached) → new ≡ altered_page f old s p → IsSome (page_in old s p)
     → AreTranslated old t → AreTranslated new (flushed s t)
-altered_translated f old new s p t is there all =
+altered_translated f bare old new s p t is there all =
     same_translated (put_page old s p (f at.x)) new (flushed s t) (is ∙ changed_there f old s p at.x at.there) (record {
       entries = true_flushed old (put_page old s p (f at.x)) s t (λ q r other. page_put_beside old s p (f at.x) q r (λ same within. other same)) all.entries;
       apart = apart_same old (put_page old s p (f at.x)) all.apart (keeps_page_put old s p (f at.x) (there_space old s p at.x at.there)).awaiting was_there;
+      small = small_put old s p (f at.x) (there_space old s p at.x at.there) (omega (arith, ap length (bare at.x))) all.small;
     })
   where
     at : HasPage old s p
@@ -256,19 +317,28 @@ altered_translated f old new s p t is there all =
         (λ other. sym (ap is_some (page_put_beside old s p (f at.x) q r (λ same within. other same))) ∙ now)
 
 -- a page that awaits became one of the space's
-shared_translated : (old : State) (s p : ℕ) (x : PageState) (t : Translations Cached) → is_some (get (space_in old s).awaiting p) ≡ true → AreTranslated old t
+shared_translated : (old : State) (s p : ℕ) (x : PageState) (t : Translations Cached) → is_some (get (space_in old s).awaiting p) ≡ true → length x.own ≤ 31 → AreTranslated old t
     → AreTranslated (put_shared old s p x) t
 unfolding put_shared
-shared_translated old s p x t waits all = record {
+shared_translated old s p x t waits few all = record {
   entries = true_kept old (put_shared old s p x) t
       (λ q r y there. page_shared_beside old s p x q r (λ one two. absurd (elsewhere q r y there one two)) ∙ there) all.entries;
   apart = apart_by old (put_shared old s p x) s all.apart awaiting_beside (λ q r other. page_shared_beside old s p x q r (λ same within. other same)) here;
+  small = small_but old (put_shared old s p x) s all.small marks (λ q r other. page_shared_beside old s p x q r (λ same within. other same))
+      (λ r y there. by_key r p
+      (λ same. inl (subst (λ z. length z.own ≤ 31) (some_is x y (sym (page_shared_here old s p x s r refl same) ∙ there)) few))
+      (λ other. inr (sym (page_shared_beside old s p x s r (λ one two. other two)) ∙ there)));
 }
   where
     elsewhere : (q r : ℕ) (y : PageState) → page_in old q r ≡ Some y → q ≡ s → r ≡ p → ⊥
     elsewhere q r y there one two =
         let at = ap is_some (sym (ap (λ n. page_in old n r) one ∙ ap (page_in old s) two) ∙ there) in
         let none = sym waits ∙ ap is_some (all.apart s p at) in cc
+
+    marks : (q : ℕ) → (space_in (put_shared old s p x) q).speculating ≡ (space_in old q).speculating
+    marks q = by_key q s
+        (λ same. ap (λ (y : SpaceState). y.speculating) (space_put old s _ q same) ∙ ap (λ n. (space_in old n).speculating) (sym same))
+        (λ other. ap (λ (y : SpaceState). y.speculating) (space_beside old s _ q other))
 
     awaiting_beside : (q : ℕ) → (q ≡ s → ⊥) → (space_in (put_shared old s p x) q).awaiting ≡ (space_in old q).awaiting
     awaiting_beside q other = ap (λ (y : SpaceState). y.awaiting) (space_beside old s _ q other)
@@ -282,22 +352,30 @@ shared_translated old s p x t waits all = record {
         (λ other. ap (λ m. get m r) awaiting_here ∙ removed_other (space_in old s).awaiting p r other
         ∙ all.apart s r (sym (ap is_some (page_shared_beside old s p x s r (λ same within. other within))) ∙ there))
 
-pub page_shared_translated : (old new : State) (from to p : ℕ) (t : Translations Cached) → new ≡ with_shared old from to p → AreTranslated old t
-    → AreTranslated new t
+pub page_shared_translated : (old new : State) (from to p : ℕ) (t : Translations Cached) → new ≡ with_shared old from to p
+    → ((x : PageState) → page_in old from p ≡ Some x → length x.own ≤ 31) → AreTranslated old t → AreTranslated new t
 unfolding with_shared
-page_shared_translated old new from to p t is all =
-    same_translated (with_shared old from to p) new t is (by_entry (get (space_in old to).awaiting p) refl (page_in old from p))
+page_shared_translated old new from to p t is few all =
+    same_translated (with_shared old from to p) new t is (by_entry (get (space_in old to).awaiting p) refl (page_in old from p) refl)
   where
-    by_entry : (o : Option PageEntry) → get (space_in old to).awaiting p ≡ o → (c : Option PageState)
+    by_entry : (o : Option PageEntry) → get (space_in old to).awaiting p ≡ o → (c : Option PageState) → page_in old from p ≡ c
         → AreTranslated (option_map_or (λ (e : PageEntry). option_map_or (λ x. put_shared old to p (shared_page e x)) c old) o old) t
-    by_entry None waits c = all
-    by_entry (Some e) waits None = all
-    by_entry (Some e) waits (Some x) = shared_translated old to p (shared_page e x) t (ap is_some waits) all
+    by_entry None waits c there = all
+    by_entry (Some e) waits None there = all
+    by_entry (Some e) waits (Some x) there = shared_translated old to p (shared_page e x) t (ap is_some waits) (few x there) all
 
-pub pages_shared_translated : (from to until : ℕ) (old new : State) (t : Translations Cached) → AreShared from to until old new → AreTranslated old t → AreTranslated new t
-pages_shared_translated from to until _ _ t (Still state) all = all
-pages_shared_translated from to until _ _ t (Then old new page below least rest) all =
-    pages_shared_translated from to until (with_shared old from to page) new t rest (page_shared_translated old (with_shared old from to page) from to page t refl all)
+-- pages without own lines, one after the other
+pub pages_shared_translated : (from to until : ℕ) (old new : State) (t : Translations Cached) → (from ≡ to → ⊥) → AreShared from to until old new
+    → AwaitBare old from to until → AreTranslated old t → AreTranslated new t
+pages_shared_translated from to until _ _ t differs (Still state) bare all = all
+pages_shared_translated from to until _ _ t differs (Then old new page below least rest) bare all =
+    let at = bare page below least.there in
+    pages_shared_translated from to until (with_shared old from to page) new t differs rest (still_bare old from to page differs least.there at.0 until bare)
+    (page_shared_translated old (with_shared old from to page) from to page t refl (λ x there.
+    none_own (length x.own) (sym (own_in old from page ∙ ap (λ o. option_map_or (λ (y : PageState). nat_lt 0 (length y.own)) o false) there) ∙ at.1)) all)
+  where
+    none_own : (n : ℕ) → nat_lt 0 n ≡ false → n ≤ 31
+    none_own n e = grind (arith, nat_tests)
 
 -- pages that are to await, of a space without pages
 pub awaited_translated : (old new : State) (s : ℕ) (table : Pages) (t : Translations Cached) → new ≡ put_awaiting old s table → (space_in old s).pages ≡ empty
@@ -306,8 +384,14 @@ unfolding put_awaiting
 awaited_translated old new s table t is none all = same_translated (put_awaiting old s table) new t is (record {
   entries = true_kept old (put_awaiting old s table) t (λ q r x there. page_awaited old s table q r ∙ there) all.entries;
   apart = apart_by old (put_awaiting old s table) s all.apart beside (λ q r other. page_awaited old s table q r) (λ r there. absurd (no_page r there));
+  small = small_by old (put_awaiting old s table) all.small (λ q r x there off. inr (sym (page_awaited old s table q r) ∙ there, sym (marks q) ∙ off));
 })
   where
+    marks : (q : ℕ) → (space_in (put_awaiting old s table) q).speculating ≡ (space_in old q).speculating
+    marks q = by_key q s
+        (λ same. ap (λ (y : SpaceState). y.speculating) (space_put old s _ q same) ∙ ap (λ n. (space_in old n).speculating) (sym same))
+        (λ other. ap (λ (y : SpaceState). y.speculating) (space_beside old s _ q other))
+
     beside : (q : ℕ) → (q ≡ s → ⊥) → (space_in (put_awaiting old s table) q).awaiting ≡ (space_in old q).awaiting
     beside q other = ap (λ (x : SpaceState). x.awaiting) (space_beside old s _ q other)
 
@@ -316,11 +400,15 @@ awaited_translated old new s table t is none all = same_translated (put_awaiting
         let empty_too = sym there ∙ ap is_some (page_awaited old s table s r ∙ page_of old s r ∙ ap (λ m. get m r) none ∙ get-empty {X = PageState} nat_cmp r) in cc
 
 -- a mark
-pub marked_translated : (old new : State) (s : ℕ) (on : Bool) (t : Translations Cached) → new ≡ put_mark old s on → AreTranslated old t → AreTranslated new (flushed s t)
+pub marked_translated : (old new : State) (s : ℕ) (on : Bool) (t : Translations Cached) → new ≡ put_mark old s on → (on ≡ false → NoneLarge (books old) s) → AreTranslated old t → AreTranslated new (flushed s t)
 unfolding put_mark
-marked_translated old new s on t is all = same_translated (put_mark old s on) new (flushed s t) is (record {
+marked_translated old new s on t is none all = same_translated (put_mark old s on) new (flushed s t) is (record {
   entries = true_flushed old (put_mark old s on) s t (λ q r other. page_marked old s on q r) all.entries;
   apart = apart_same old (put_mark old s on) all.apart awaiting (λ q r there. sym (ap is_some (page_marked old s on q r)) ∙ there);
+  small = small_by old (put_mark old s on) all.small (λ q r x there off. by_key q s
+      (λ same. inl (small_own old s r x (none (sym (ap (λ (y : SpaceState). y.speculating) (space_put old s _ q same)) ∙ off))
+      (sym (ap (λ n. page_in old n r) same) ∙ sym (page_marked old s on q r) ∙ there)))
+      (λ other. inr (sym (page_marked old s on q r) ∙ there, ap (λ (y : SpaceState). y.speculating) (sym (space_beside old s _ q other)) ∙ off)));
 })
   where
     awaiting : (q : ℕ) → (space_in (put_mark old s on) q).awaiting ≡ (space_in old q).awaiting
@@ -368,6 +456,9 @@ lent_translated m at line t all = record {
       ap (option_map cached_page) (state_page after q r) ∙ by_page (page_in m.table q r) ∙ sym (ap (option_map cached_page) (state_page m q r))) all.entries;
   apart = apart_same (seen.state_of m) (seen.state_of after) all.apart (λ q. state_awaiting after q ∙ sym (state_awaiting m q))
       (λ q r there. state_page_some m q r ∙ sym (state_page_some after q r) ∙ there);
+  small = λ q r x there off. map_from (page_state after.store) (page_in m.table q r) x (sym (state_page after q r) ∙ there)
+      (λ y is same. subst (λ (z : PageState). length z.own ≤ 31) same
+      (all.small q r (page_state m.store y) (state_page m q r ∙ ap (option_map (page_state m.store)) is) (state_mark m q ∙ sym (state_mark after q) ∙ off)));
 }
   where
     after : MemoryView
@@ -391,16 +482,24 @@ stored_apart old new s address bytes stored apart = apart_same old new apart
     (λ other.
     ap is_some (page_of old q r ∙ ap (λ (x : SpaceState). get x.pages r) (sym (stored.others q other)) ∙ sym (page_of new q r)) ∙ there))
 
+refused_translated : (old new : MemoryView) (t : Translations Cached) → new ≡ old → AreTrue (seen.state_of new) t → AwaitApart (seen.state_of old)
+    → AreOverlaysSmall (seen.state_of old) → AreTranslated (seen.state_of new) t
+refused_translated old new t same entries apart small = record {
+  entries = entries;
+  apart = subst (λ (m : MemoryView). AwaitApart (seen.state_of m)) (sym same) apart;
+  small = subst (λ (m : MemoryView). AreOverlaysSmall (seen.state_of m)) (sym same) small;
+}
+
 pub stored_translated : (old new : MemoryView) (s address : ℕ) (bytes : List ℕ) (r : Result (Unit {0}) MemoryError) (t : Translations Cached)
-    → Stores old new s address bytes r → AreTrue (seen.state_of new) t → AwaitApart (seen.state_of old) → AreTranslated (seen.state_of new) t
-stored_translated old new s address bytes (Ok done) t stores entries apart =
-    record { entries = entries; apart = stored_apart (seen.state_of old) (seen.state_of new) s address bytes stores.1 apart }
-stored_translated old new s address bytes (Err (Unmapped at)) t stores entries apart =
-    record { entries = entries; apart = subst (λ (m : MemoryView). AwaitApart (seen.state_of m)) (sym stores.1) apart }
-stored_translated old new s address bytes (Err (Forbidden at)) t stores entries apart =
-    record { entries = entries; apart = subst (λ (m : MemoryView). AwaitApart (seen.state_of m)) (sym stores.1) apart }
-stored_translated old new s address bytes (Err (Full needed limit)) t stores entries apart =
-    record { entries = entries; apart = subst (λ (m : MemoryView). AwaitApart (seen.state_of m)) (sym stores.1.kept) apart }
+    → Stores old new s address bytes r → AreTrue (seen.state_of new) t → AwaitApart (seen.state_of old) → AreOverlaysSmall (seen.state_of old) → AreTranslated (seen.state_of new) t
+stored_translated old new s address bytes (Ok done) t stores entries apart small = record {
+  entries = entries;
+  apart = stored_apart (seen.state_of old) (seen.state_of new) s address bytes stores.1 apart;
+  small = small_stored (seen.state_of old) (seen.state_of new) s address bytes stores.1 small;
+}
+stored_translated old new s address bytes (Err (Unmapped at)) t stores entries apart small = refused_translated old new t stores.1 entries apart small
+stored_translated old new s address bytes (Err (Forbidden at)) t stores entries apart small = refused_translated old new t stores.1 entries apart small
+stored_translated old new s address bytes (Err (Full needed limit)) t stores entries apart small = refused_translated old new t stores.1.kept entries apart small
 
 -- of a space that isn't there no page has an entry
 pub nothing_seen : (state : State) (s : ℕ) (t : Translations Cached) → holds_space state s ≡ false → AreTranslated state t → (page : ℕ) → found s page t ≡ None

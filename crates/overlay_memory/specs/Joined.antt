@@ -6,11 +6,12 @@ use Rattle.overlay_mapping_table.specs.declared.entry.Entry.{Entry}
 use Rattle.page_table.specs.declared.entry.PageEntry.{PageEntry}
 use Rattle.space_maps.specs.Spaces.{page_in}
 use Rattle.space_ledger.specs.View.{PageView, lines_of}
-use Rattle.overlay_pages.specs.Changes.{limit_of}
+use Rattle.ledger.specs.Units.{units}
+use Rattle.overlay_pages.specs.Changes.{Fits, limit_of}
 use Rattle.overlay_pages.specs.Lines.{page_lines}
 use Rattle.overlay_pages.specs.State.{PageState, State}
 use Rattle.overlay_pages.specs.View.{IsJoined, MemoryView, line_seen, page_state, state_of}
-use Rattle.overlay_pages.specs.ViewLaws.{state_frames, state_page}
+use Rattle.overlay_pages.specs.ViewLaws.{state_books, state_frames, state_page}
 use Rattle.overlay_memory.specs.PageLaws.{some_is}
 
 -- Laws: what is true of every memory.
@@ -48,3 +49,7 @@ page_low m joined space page there = by_page (page_in m.table space page) refl
 
 pub limit_few : (m : MemoryView) → IsJoined m → limit_of (state_of m) ≤ 2 ^ 20
 limit_few m joined = omega (arith, state_frames m, joined.frames, joined.store.pieces.few)
+
+-- what isn't free are the units of the ledger, so they are within the limit
+pub units_fit : (m : MemoryView) → IsJoined m → Fits (state_of m)
+units_fit m joined = omega (arith, state_frames m, joined.frames, joined.count, ap units (state_books m))

@@ -1,11 +1,13 @@
-use Rattle.std.specs.Prelude.{◌≡◌, ℕ, ◌+◌, ◌-◌, ◌*◌, ◌/◌, ◌<◌, true, false, List, length, Some, None, Result, Ok, Err}
+use Rattle.std.specs.Prelude.{◌≡◌, ℕ, ◌+◌, ◌-◌, ◌*◌, ◌/◌, ◌<◌, ◌&&◌, Bool, true, false, not, List, length, Some, None, IfSome, Result, Ok, Err}
 use Rattle.std.specs.FinMap as map
 use Rattle.sizes.specs.declared.TheConstants.{LINE_BYTES, PAGE_BYTES}
 use Rattle.ovl_io.specs.Memory.{with_bytes}
 use Rattle.ovl_io.specs.Permissions.{permits}
 use Rattle.overlay_bits.specs.Lines.{lines_between}
+use Rattle.ledger.specs.Changes.{is_large}
+use Rattle.ledger.specs.Ledger.{is_alone}
 use Rattle.overlay_pages.specs.State.{PageState, State, base_of, books, memory_of, seen_page}
-use Rattle.overlay_pages.specs.Changes.{is_writable}
+use Rattle.overlay_pages.specs.Changes.{IsPlaced, copied, is_writable}
 use Rattle.overlay_pages.specs.Calls.{entries_in}
 use Rattle.overlay_pages.specs.View.{IsJoined, MemoryView, state_of}
 use Rattle.overlay_pages.specs.declared.spots.FoundLine.{FoundLine}
@@ -88,6 +90,15 @@ pub record IsFilled (old new : State) (space address : ℕ) (bytes : List ℕ) :
   pub bases : (page : ℕ) → IsUntouched address (length bytes) page → map.get (base_of new space) page ≡ map.get (base_of old space) page
   pub writable : (page line : ℕ) → is_writable new space page line ≡ is_writable old space page line
   pub beside : KeepsAllElse old new space
+
+-- whether a page that was stored to is settled: it has 32 own lines or more, its space isn't speculating, and it isn't alone
+abbrev pub is_to_settle : State → ℕ → ℕ → Bool
+is_to_settle state space page = is_large (books state) space page && (not (space_in state space).speculating && not (is_alone (books state) space page))
+
+-- Then it gets a new frame with its lines; else it stays.
+pub record Settles (old new : State) (space page : ℕ) : Type 0 where
+  pub still : is_to_settle old space page ≡ false → new ≡ old
+  pub placed : is_to_settle old space page ≡ true → IfSome (page_in old space page) (λ x. IsPlaced old new space page (λ frame. copied frame x))
 
 -- a space without its pages; its mark stays
 unfoldable pub emptied_space : State → ℕ → State

@@ -1,4 +1,4 @@
-use Rattle.std.specs.Prelude.{◌≡◌, ℕ, List, Option, Some, is_some, true, None}
+use Rattle.std.specs.Prelude.{◌≡◌, ℕ, ◌≤◌, List, length, Option, Some, is_some, true, false, None}
 use Rattle.std.specs.Option.{option_map}
 use Rattle.std.specs.FinMap.{empty, get}
 use Rattle.overlay_pages.specs.Calls as below
@@ -50,6 +50,12 @@ NoneAwaits state space = (space_in state space).awaiting ≡ empty
 abbrev pub AwaitApart : State → Type 0
 AwaitApart state = (space page : ℕ) → is_some (page_in state space page) ≡ true → get (space_in state space).awaiting page ≡ None
 
+-- in a space that isn't speculating each page has at most 31 own lines
+abbrev pub AreOverlaysSmall : State → Type 0
+AreOverlaysSmall state =
+    (space page : ℕ) (x : PageState) → page_in state space page ≡ Some x → (space_in state space).speculating ≡ false → length x.own ≤ 31
+
 pub record AreTranslated (state : State) (t : Translations Cached) : Type 0 where
   pub entries : AreTrue state t
   pub apart : AwaitApart state
+  pub small : AreOverlaysSmall state

@@ -11,6 +11,7 @@
 //! - `reading`: bytes out of the lines of pages
 //! - `removing`: pages that are taken away
 //! - `room`: whether there are as many units as a change needs
+//! - `settling`: pages that are settled after a store
 //! - `storing`: bytes into the lines of pages, and what a store needs first
 //! - `translating`: pages that accesses go through, and what entries hold of them
 #![tactic(auto)]
@@ -21,6 +22,7 @@ mod memory;
 mod reading;
 mod removing;
 mod room;
+mod settling;
 mod storing;
 mod translating;
 

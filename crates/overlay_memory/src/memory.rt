@@ -8,6 +8,7 @@ ghost use Rattle.sizes.specs.declared.TheConstants.{LAST_SPACE, LINE_BYTES, MOST
 ghost use Rattle.ovl_io.specs.Memory.{bytes_at};
 ghost use Rattle.ovl_io.specs.Permissions.{writable};
 ghost use Rattle.ledger.specs.Ledger.{is_alone};
+ghost use Rattle.ledger.specs.LargeLaws.{NoneLarge};
 ghost use Rattle.ledger.specs.Units.{own_lines};
 ghost use Rattle.space_maps.specs.Spaces.{bare_space, cut_pages, cut_space, holds_space, page_in, put_awaiting, put_mark, put_space, space_in, altered_page};
 ghost use Rattle.space_ledger.specs.Space.{IsLeast};
@@ -23,7 +24,7 @@ ghost use Rattle.overlay_memory.specs.Code.{IsCodeLine};
 ghost use Rattle.overlay_memory.specs.Pieces.{emptied_space};
 ghost use Rattle.overlay_memory.specs.Room.{FallsShort};
 ghost use Rattle.overlay_memory.specs.Translated.{access_at, after_access};
-ghost use Rattle.overlay_memory.specs.View.{AreTrue, NoneAwaits, state_of, translations_of, with_region_line};
+ghost use Rattle.overlay_memory.specs.View.{AreOverlaysSmall, AreTrue, NoneAwaits, state_of, translations_of, with_region_line};
 ghost use Rattle.translation_cache.specs.Bare.{bare};
 ghost use Rattle.translation_cache.specs.Formed.{IsFormed};
 ghost use Rattle.translation_cache.specs.Translations.{flushed, no_translations, with_hits};
@@ -245,6 +246,7 @@ impl OverlayMemory {
         ensures stores { Stores self.old.pages self.new.pages space address bytes.now result }
         ensures kept { OnErr result (self.new ≡ self.old) }
         ensures translations { translations_of self.new ≡ translations_of self.old }
+        ensures small { AreOverlaysSmall (state_of self.new) }
     {
         self.fronts.clear();
         write_pages(&mut self.pages, &mut self.cache, space, address, bytes)
@@ -329,6 +331,7 @@ impl OverlayMemory {
         ensures stores { Stores self.old.pages self.new.pages space address bytes.now result }
         ensures translations { translations_of self.new
             ≡ after_access self.old space (access_at writable address (length bytes.now)) }
+        ensures small { AreOverlaysSmall (state_of self.new) }
     {
         if is_in_line(address, bytes.len()) {
             let came = store_line(
@@ -422,9 +425,10 @@ impl OverlayMemory {
     }
 
     /// Shares a page with a space in which it awaits as the least, with the frame that it has: it gets its lines, and an overlay
-    /// of its own. The units after it are there. Takes no memory. Costs a copy of each own line.
+    /// of its own. The units after it are there, and the space that has it isn't speculating. Takes no memory. Costs a copy of each own line.
     pub fn share_page(&mut self, from: u16, to: u16, page: u64)
         requires there { IsSome (page_in (state_of self.old) from page) }
+        requires settled { (space_in (state_of self.old) from).speculating ≡ false }
         requires space { holds_space (state_of self.old) to ≡ true }
         requires least { IsLeast (space_in (state_of self.old) to).awaiting page }
         requires frame { AwaitsLike (state_of self.old) from to page }
@@ -549,10 +553,12 @@ impl OverlayMemory {
         self.pages.next_overlaid(space, page)
     }
 
-    /// Sets or takes away the mark of a space. Takes no memory.
+    /// Sets or takes away the mark of a space: away only where none of its pages has 32 own lines or more. Takes no memory.
     pub fn set_speculating(&mut self, space: u16, on: bool)
         requires there { holds_space (state_of self.old) space ≡ true }
+        requires small { on ≡ false → NoneLarge (books (state_of self.old)) space }
         ensures state { state_of self.new ≡ put_mark (state_of self.old) space on }
+        ensures small { AreOverlaysSmall (state_of self.new) }
         ensures translations { translations_of self.new ≡ flushed space (translations_of self.old) }
     {
         self.fronts.clear();
@@ -560,10 +566,11 @@ impl OverlayMemory {
         self.cache.flush(space);
     }
 
-    /// Whether a space is marked as speculating.
+    /// Whether a space is marked as speculating. Where it isn't, each of its pages has at most 31 own lines.
     #[inline]
     pub fn is_speculating(&self, space: u16) -> bool
         ensures mark { result ≡ (space_in (state_of self.now) space).speculating }
+        ensures small { result ≡ false → NoneLarge (books (state_of self.now)) space }
         ensures joined { IsJoined self.now.pages }
     {
         self.pages.is_speculating(space)

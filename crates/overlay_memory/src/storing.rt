@@ -10,7 +10,7 @@ ghost use Rattle.overlay_pages.specs.Spots.{IsFound, IsFoundPageAt};
 ghost use Rattle.overlay_memory.specs.Access.{FitsStored, IsStored, Stores};
 ghost use Rattle.overlay_memory.specs.Fronts.{AreFronts};
 ghost use Rattle.overlay_memory.specs.Pieces.{AreWritable, IsFilled, Permits, lines_under, result_at};
-ghost use Rattle.overlay_memory.specs.View.{AreTrue};
+ghost use Rattle.overlay_memory.specs.View.{AreOverlaysSmall, AreTrue, NoneAwaits};
 ghost use Rattle.space_maps.specs.Spaces.{page_in};
 ghost use Rattle.translation_cache.specs.Bare.{bare};
 ghost use Rattle.translation_cache.specs.Counted.{translated};
@@ -20,6 +20,7 @@ use crate::error::{Came, MemoryError, came_of};
 use crate::fronts::Fronts;
 use crate::reading::{line_of, permit};
 use crate::room::{shortage_by, shortage_of};
+use crate::settling::settle_if_large;
 use crate::translating::{bring_line, bring_lines, translate_anew};
 use bitflags::Flags;
 use overlay_bits::Bits;
@@ -97,7 +98,7 @@ fn fill_page(pages: &mut OverlayPages, space: u16, page: u64, at: usize, bytes: 
 }
 
 /// Puts bytes, some and all in one page that is there, whatever its permissions: first the lines in which they lie are made such as can
-/// be written where they stand, and then the bytes are put. The units after it are there.
+/// be written where they stand, then the bytes are put, and then the page is settled where it has to be. The units after it are there.
 fn put_in_page(
     pages: &mut OverlayPages,
     cache: &mut Cache,
@@ -111,6 +112,7 @@ fn put_in_page(
     requires one_page { address % PAGE_BYTES + length bytes.now ≤ PAGE_BYTES }
     requires under { lines ≡ lines_under (address % PAGE_BYTES) (length bytes.now) }
     requires fits { FitsStored (state_of pages.old) space address (length bytes.now) }
+    requires none_awaits { NoneAwaits (state_of pages.old) space }
     requires held { AreTrue (state_of pages.old) cache.old }
     ensures stored { IsStored (state_of pages.old) (state_of pages.new) space address bytes.now }
     ensures held { AreTrue (state_of pages.new) cache.new }
@@ -125,6 +127,7 @@ fn put_in_page(
         (address % PAGE_BYTES as u64) as usize,
         bytes,
     );
+    settle_if_large(pages, cache, space, page);
 }
 
 /// Stores bytes, some and all in one page: permission first, then units, then the bytes with their lines.
@@ -137,6 +140,7 @@ fn write_in_page(
 ) -> Result<(), MemoryError>
     requires some { 0 < length bytes.now }
     requires one_page { address % PAGE_BYTES + length bytes.now ≤ PAGE_BYTES }
+    requires none_awaits { NoneAwaits (state_of pages.old) space }
     requires held { AreTrue (state_of pages.old) cache.old }
     ensures stores { Stores pages.old pages.new space address bytes.now result }
     ensures held { AreTrue (state_of pages.new) cache.new }
@@ -168,6 +172,7 @@ fn write_in_two(
     requires front { address % PAGE_BYTES + front ≡ PAGE_BYTES }
     requires over { front < length bytes.now }
     requires two_pages { length bytes.now ≤ PAGE_BYTES }
+    requires none_awaits { NoneAwaits (state_of pages.old) space }
     requires held { AreTrue (state_of pages.old) cache.old }
     ensures stores { Stores pages.old pages.new space address bytes.now result }
     ensures held { AreTrue (state_of pages.new) cache.new }
@@ -186,6 +191,8 @@ fn write_in_two(
     let page = address / PAGE_BYTES as u64;
     let lines = lines_at((address % PAGE_BYTES as u64) as usize, front);
     let more = lines_at(0, bytes.len() - front);
+    // A frame is named by one page of a space, so the first page's may change and the other one is alone as before.
+    let _pages = pages.pages(space);
     let one = pages.store_units(space, page, lines);
     let two = pages.store_units(space, page + 1, more);
     if let Some(shortage) = shortage_by(pages, one + two) {
@@ -207,6 +214,7 @@ pub(crate) fn write_pages(
     bytes: &[u8],
 ) -> Result<(), MemoryError>
     requires few { length bytes.now ≤ PAGE_BYTES }
+    requires none_awaits { NoneAwaits (state_of pages.old) space }
     requires held { AreTrue (state_of pages.old) cache.old }
     ensures stores { Stores pages.old pages.new space address bytes.now result }
     ensures held { AreTrue (state_of pages.new) cache.new }
@@ -225,7 +233,8 @@ pub(crate) fn write_pages(
 }
 
 /// Stores bytes, some and all in one line, of a page that was found, may be written and is at the front of its list, where the line
-/// can't be written where it stands: units first, then the line, then the bytes. No page is looked up unless the overlay grew.
+/// can't be written where it stands: units first, then the line, then the bytes. No page is looked up unless the overlay grew, as one
+/// that comes to have 32 lines does.
 #[inline(always)]
 fn store_brought(
     pages: &mut OverlayPages,
@@ -243,8 +252,10 @@ fn store_brought(
         (address / LINE_BYTES % PAGE_LINES) ≡ false }
     requires some { 0 < length bytes.now }
     requires one_line { address % LINE_BYTES + length bytes.now ≤ LINE_BYTES }
+    requires none_awaits { NoneAwaits (state_of pages.old) space }
     requires held { AreTrue (state_of pages.old) cache.old }
     requires fronts { AreFronts pages.old (bare cache.old) fronts.old }
+    requires small { AreOverlaysSmall (state_of pages.old) }
     ensures stores { Stores pages.old pages.new space address bytes.now (result_at address result) }
     ensures held { AreTrue (state_of pages.new) cache.new }
     ensures lists { bare cache.new ≡ bare cache.old }
@@ -264,6 +275,7 @@ fn store_brought(
         None => {
             fronts.clear();
             fill_line(pages, space, number, line, at, bytes);
+            settle_if_large(pages, cache, space, number);
         }
     }
     Came::Done
@@ -283,8 +295,10 @@ fn store_apart(
 ) -> Came
     requires some { 0 < length bytes.now }
     requires one_line { address % LINE_BYTES + length bytes.now ≤ LINE_BYTES }
+    requires none_awaits { NoneAwaits (state_of pages.old) space }
     requires held { AreTrue (state_of pages.old) cache.old }
     requires fronts { AreFronts pages.old (bare cache.old) fronts.old }
+    requires small { AreOverlaysSmall (state_of pages.old) }
     ensures stores { Stores pages.old pages.new space address bytes.now (result_at address result) }
     ensures held { AreTrue (state_of pages.new) cache.new }
     ensures lists { bare cache.new ≡ bare cache.old }
@@ -320,8 +334,10 @@ fn store_found(
     requires found { IsFoundPageAt pages.old space (address / PAGE_BYTES) page }
     requires some { 0 < length bytes.now }
     requires one_line { address % LINE_BYTES + length bytes.now ≤ LINE_BYTES }
+    requires none_awaits { NoneAwaits (state_of pages.old) space }
     requires held { AreTrue (state_of pages.old) cache.old }
     requires fronts { AreFronts pages.old (bare cache.old) fronts.old }
+    requires small { AreOverlaysSmall (state_of pages.old) }
     ensures stores { Stores pages.old pages.new space address bytes.now (result_at address result) }
     ensures held { AreTrue (state_of pages.new) cache.new }
     ensures lists { bare cache.new ≡ bare cache.old }
@@ -353,8 +369,10 @@ fn store_anew(
 ) -> Came
     requires some { 0 < length bytes.now }
     requires one_line { address % LINE_BYTES + length bytes.now ≤ LINE_BYTES }
+    requires none_awaits { NoneAwaits (state_of pages.old) space }
     requires held { AreTrue (state_of pages.old) cache.old }
     requires fronts { AreFronts pages.old (bare cache.old) fronts.old }
+    requires small { AreOverlaysSmall (state_of pages.old) }
     ensures stores { Stores pages.old pages.new space address bytes.now (result_at address result) }
     ensures held { AreTrue (state_of pages.new) cache.new }
     ensures translated { bare cache.new
@@ -379,8 +397,10 @@ pub(crate) fn store_line(
 ) -> Came
     requires some { 0 < length bytes.now }
     requires one_line { address % LINE_BYTES + length bytes.now ≤ LINE_BYTES }
+    requires none_awaits { NoneAwaits (state_of pages.old) space }
     requires held { AreTrue (state_of pages.old) cache.old }
     requires fronts { AreFronts pages.old (bare cache.old) fronts.old }
+    requires small { AreOverlaysSmall (state_of pages.old) }
     ensures stores { Stores pages.old pages.new space address bytes.now (result_at address result) }
     ensures held { AreTrue (state_of pages.new) cache.new }
     ensures translated { bare cache.new

@@ -28,7 +28,7 @@ use sizes::PAGE_BYTES;
 use translation_cache::{Cache, Cached};
 
 /// What was found of a page, as its entry holds it.
-fn cached_of(found: &FoundPage) -> Cached
+pub(crate) fn cached_of(found: &FoundPage) -> Cached
     ensures { result ≡ held_of found.now }
 {
     Cached {

@@ -6,7 +6,7 @@ pub use Rattle.ledger.specs.Events.{Store, ledger_after}
 pub use Rattle.ledger.specs.Ledger.{Holding, Ledger, all_holdings, has_origin, holding_at, is_alone, with_page, without_page}
 unfoldable pub use Rattle.ledger.specs.Ledger.{is_unused}
 pub use Rattle.ledger.specs.PlaceLaws.{by_place, put_again}
-pub use Rattle.ledger.specs.StoreLaws.{longer, store_joins, store_nothing, units_joined}
+pub use Rattle.ledger.specs.StoreLaws.{longer, store_nothing, units_store}
 pub use Rattle.ledger.specs.TallyLaws.{no_holdings, overlaid_few, same_units}
 pub use Rattle.ledger.specs.UnitLaws.{alone_is, no_units, units_at, units_changed, units_new, units_own}
 unfoldable pub use Rattle.ledger.specs.UnitLaws.{frame_for}

@@ -1,6 +1,6 @@
 use Rattle.overlay_pages.proofs.Common.{true≢false, ◌≡◌, ℕ, ◌+◌, ◌*◌, ◌≤◌, ◌<◌, ◌&&◌, Bool, true, false, cond, not, List, [], ◌∷◌, Option, Some, None, IfSome, IsSome, is_some, length, refl, nat_cmp, sym, ap, subst, ◌∙◌, arith, none-some, option_and_then, option_map, option_map_or, FinMap, empty, get, get-empty, len, FRAME_UNITS, LAST_SPACE, PAGE_END, Result, OnOk, OnErr}
 use Rattle.overlay_pages.proofs.Stores.{free_units}
-use Rattle.overlay_pages.proofs.Books.{alike, len_low, get_viewed, Pages, Ledger, is_alone, units, class_most, same_units, Store, ledger_after, store_joins, store_nothing, units_joined, with_lines, map_twice, by_option, by_test, books_added, books_awaiting, books_lost, books_marked, books_page, page_added, page_awaited, page_lost, page_marked, there_cut, there_put, bare_space, cut_space, holds_space, page_in, put_awaiting, put_mark, put_space, space_in, altered_page, LedgerView, PageView, frame_at, holding_of, ledger_of, lines_of, overlay_at, NamesOnce}
+use Rattle.overlay_pages.proofs.Books.{alike, len_low, get_viewed, Pages, Ledger, is_alone, units, class_most, same_units, Store, ledger_after, store_nothing, units_store, with_lines, map_twice, by_option, by_test, books_added, books_awaiting, books_lost, books_marked, books_page, page_added, page_awaited, page_lost, page_marked, there_cut, there_put, bare_space, cut_space, holds_space, page_in, put_awaiting, put_mark, put_space, space_in, altered_page, LedgerView, PageView, frame_at, holding_of, ledger_of, lines_of, overlay_at, NamesOnce}
 use Rattle.overlay_pages.proofs.Views.{PageState, brought, with_brought, writes_frame, IsNextPage, RisesBy, entries_in, IsJoined, MemoryView, page_state, state_of, view_of, state_books, state_mark, state_page, state_page_some, state_pages, state_holds, state_zero, state_added, state_awaiting_put, state_cut_space, state_mark_put}
 use Rattle.overlay_pages.proofs.Results.{either, on_ok}
 use Rattle.segment_store.specs.Store as store
@@ -184,9 +184,9 @@ module _ (st : store.Store) (v new : LedgerView) (now : MemoryView) (s : ℕ) (s
       (λ frame. by_option (page_in v s p)
       (λ none. absurd (true≢false (sym (seen_there p there) ∙ ap is_some none)))
       (λ x found.
-      let more = units_joined (ledger_of v) s p lines (holding_of v.zero_frame x) (books_page holding_of v s p ∙ ap (option_map (holding_of v.zero_frame)) found) in
-      let after = ap units (store_joins (space_in v s).speculating (ledger_of v) s p lines frame) in
-      omega (arith, one, after, more, class_most (length (with_lines (lines_of x.overlay) lines)))))
+      let more = units_store (space_in v s).speculating (ledger_of v) s p lines (holding_of v.zero_frame x)
+      (books_page holding_of v s p ∙ ap (option_map (holding_of v.zero_frame)) found) frame in
+      omega (arith, one, more, class_most (length (with_lines (lines_of x.overlay) lines)))))
 
   pub seen_low : (p : ℕ) → IsSome (page_in (state_of now) s p) → p < PAGE_END
   seen_low p there = by_option (page_in v s p)

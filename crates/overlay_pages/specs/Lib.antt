@@ -9,5 +9,6 @@ pub mod Steps
 pub mod Spots
 pub mod SpotLaws
 pub mod ViewLaws
+pub mod SharedLaws
 pub mod TableLaws
 pub mod Codes

@@ -4,19 +4,18 @@ use Rattle.std.proofs.lemmas.Bool.Decides.{nat_tests}
 use Rattle.sizes.specs.declared.TheConstants.{PAGE_END}
 use Rattle.ledger.specs.Ledger.{Holding, holding_at, is_alone}
 use Rattle.ledger.specs.Changes.{has_own}
-use Rattle.ledger.specs.Events.{Commit, ledger_after}
 use Rattle.space_maps.specs.Laws.{changed_there}
 use Rattle.space_maps.specs.Spaces.{page_in, put_page, altered_page}
 use Rattle.space_ledger.specs.Calls.{IsNextOwn}
 use Rattle.overlay_pages.specs.State.{PageState, State, books, held_page, seen_page}
 use Rattle.overlay_pages.specs.Changes.{committed}
-use Rattle.promotion.specs.Settled.{HasCommittedAlone, alone_in, with_committed}
+use Rattle.promotion.specs.Settled.{HasCommittedAlone, alone_in, with_committed, without_alone}
 use Rattle.overlay_memory.specs.ApartLaws.{ArePagesApart}
 use Rattle.overlay_memory.specs.Joined.{IsBare}
-use Rattle.overlay_memory.specs.PageLaws.{held_there, own_is, own_there}
-use Rattle.promotion.specs.FateFolds.{commit_turns, none_own, same_altered, widened}
-use Rattle.promotion.specs.Altered.{HaveAltered, WasThere, alone_now, are_settled, none_yet, one_more, own_now, said_again, still, was_there}
-use Rattle.promotion.specs.Walks.{at_first, come_past, come_to, next_done, next_kept, not_yet, so_far}
+use Rattle.overlay_memory.specs.PageLaws.{held_there, own_is}
+use Rattle.promotion.specs.FateFolds.{alone_turns, none_own, same_altered, widened}
+use Rattle.promotion.specs.Altered.{HaveAltered, alone_now, are_settled, none_yet, one_more, own_now, said_again}
+use Rattle.promotion.specs.Walks.{ComesTo, at_first, come_past, comes_to, next_done, next_kept, so_far}
 
 -- Pages that are alone are committed, one after the other.
 
@@ -47,36 +46,27 @@ module _ (old now new : State) (space from page : ℕ) (apart : ArePagesApart ol
   abbrev test : ℕ → Bool
   test = to_commit old space
 
-  reached : HaveAltered seen_page (so_far test page) (alone_in old space) old now space
-  reached = come_to seen_page test (alone_in old space) old now space from h.altered (bare_stays old space) page next
-
-  was : WasThere old space page
-  was = was_there seen_page _ _ old now space page reached (own_there now space page next.1)
+  it : ComesTo seen_page test (alone_in old space) old now space page
+  it = comes_to seen_page test (alone_in old space) old now space from h.altered (bare_stays old space) page next
 
   pub committing_more : IsCommitting old new space (page + 1)
   unfolding with_committed
   committing_more = record { altered = by_test (test page) refl; low = omega arith }
     where
-      unaltered : so_far test page page ≡ false
-      unaltered = not_yet test page page (omega arith)
-
-      at : page_in now space page ≡ Some was.x
-      at = still seen_page (so_far test page) (alone_in old space) old now space page was.x reached was.had unaltered
-
       same_test : (has_own (books now) space page && is_alone (books now) space page) ≡ test page
-      same_test = λ i. own_now old now space page was.x was.had at i && alone_now seen_page (so_far test page) old now space page was.x apart reached unaltered was.had i
+      same_test = λ i. own_now old now space page it.x it.had it.at i && alone_now seen_page (so_far test page) old now space page it.x apart it.reached it.unaltered it.had i
 
       by_test : (b : Bool) → test page ≡ b → HaveAltered seen_page (so_far test (page + 1)) (alone_in old space) old new space
       by_test false e =
           let kept : new ≡ now = is ∙ ap (λ b. cond b (altered_page committed now space page) now) (same_test ∙ e) in
           subst (λ (v : State). HaveAltered seen_page (so_far test (page + 1)) (alone_in old space) old v space) (sym kept)
-          (said_again seen_page _ _ (alone_in old space) old now space reached (λ r x had. next_kept test page r e))
+          (said_again seen_page _ _ (alone_in old space) old now space it.reached (λ r x had. next_kept test page r e))
       by_test true e =
-          let put : new ≡ put_page now space page (committed was.x) =
-          is ∙ ap (λ b. cond b (altered_page committed now space page) now) (same_test ∙ e) ∙ changed_there committed now space page was.x at in
+          let put : new ≡ put_page now space page (committed it.x) =
+          is ∙ ap (λ b. cond b (altered_page committed now space page) now) (same_test ∙ e) ∙ changed_there committed now space page it.x it.at in
           subst (λ (v : State). HaveAltered seen_page (so_far test (page + 1)) (alone_in old space) old v space) (sym put)
-          (said_again seen_page _ _ (alone_in old space) old (put_page now space page (committed was.x)) space
-          (one_more seen_page (so_far test page) (alone_in old space) old now space page was.x (committed was.x) reached was.had unaltered refl refl refl (λ _. refl)
+          (said_again seen_page _ _ (alone_in old space) old (put_page now space page (committed it.x)) space
+          (one_more seen_page (so_far test page) (alone_in old space) old now space page it.x (committed it.x) it.reached it.had it.unaltered refl refl refl (λ _. refl)
           (λ no. let yes = and_right (has_own (books old) space page) (is_alone (books old) space page) e in let never = sym yes ∙ no in cc))
           (λ r x had. next_done test page r e))
 
@@ -84,8 +74,8 @@ pub committed_all : (old now : State) (space from : ℕ) → IsBare old space �
 committed_all old now space from plain h none = record {
   settled = are_settled test (alone_in old space) (alone_in old space) old now space whole plain
       (λ r e. and_right (has_own (books old) space r) (is_alone (books old) space r) e) bare;
-  ledger = same_altered (alone_in old space) (alone_in old space) (books old) (books now) (ledger_after (Commit space) (books old)) space
-      (widened test (alone_in old space) (alone_in old space) (books old) (books now) space whole.ledger wide) (commit_turns (books old) space) (λ r e. e);
+  ledger = same_altered (alone_in old space) (alone_in old space) (books old) (books now) (without_alone space (books old)) space
+      (widened test (alone_in old space) (alone_in old space) (books old) (books now) space whole.ledger wide) (alone_turns (books old) space) (λ r e. e);
 }
   where
     test : ℕ → Bool

@@ -17,14 +17,14 @@ use Rattle.overlay_pages.specs.State.{PageState, State, books, held_page, seen_p
 use Rattle.overlay_pages.specs.Changes.{HasCopyRoom, IsNewFrame, IsPlaced, copied}
 use Rattle.overlay_memory.specs.ApartLaws.{ArePagesApart, origins_apart}
 use Rattle.overlay_memory.specs.Joined.{IsBare}
-use Rattle.overlay_memory.specs.PageLaws.{held_there, own_is, own_there}
+use Rattle.overlay_memory.specs.PageLaws.{held_there, own_is}
 use Rattle.overlay_memory.specs.Room.{FitsAfter}
 use Rattle.promotion.specs.Settled.{CanCopy, HasCommittedAlone, HasSettled, CopiesOwnWhere, NoneAlone, alone_in, every_page}
 use Rattle.promotion.specs.FateLaws.{alike_altered}
 use Rattle.promotion.specs.FateFolds.{after_settle, both_tests, commits_first, none_alone, none_own, or_page, retold}
 use Rattle.promotion.specs.FateUnits.{room_on_the_way}
-use Rattle.promotion.specs.Altered.{HaveAltered, WasThere, alone_now, are_settled, new_origin_of, none_yet, one_more, own_now, said_again, still, was_there}
-use Rattle.promotion.specs.Walks.{at_first, come_past, come_to, next_done, not_yet, so_far}
+use Rattle.promotion.specs.Altered.{HaveAltered, alone_now, are_settled, new_origin_of, none_yet, one_more, own_now, said_again}
+use Rattle.promotion.specs.Walks.{ComesTo, at_first, come_past, comes_to, next_done, so_far}
 
 -- Pages with own lines, of which none is alone, are copied, one after the other.
 
@@ -56,20 +56,11 @@ module _ (old now : State) (space from page : ℕ) (apart : ArePagesApart old sp
   abbrev test : ℕ → Bool
   test = to_copy old space
 
-  reached : HaveAltered seen_page (so_far test page) (alone_in old space) old now space
-  reached = come_to seen_page test (alone_in old space) old now space from h.altered (λ q bare. bare) page next
-
-  was : WasThere old space page
-  was = was_there seen_page _ _ old now space page reached (own_there now space page next.1)
-
-  unaltered : so_far test page page ≡ false
-  unaltered = not_yet test page page (omega arith)
-
-  at : page_in now space page ≡ Some was.x
-  at = still seen_page (so_far test page) (alone_in old space) old now space page was.x reached was.had unaltered
+  it : ComesTo seen_page test (alone_in old space) old now space page
+  it = comes_to seen_page test (alone_in old space) old now space from h.altered (λ q bare. bare) page next
 
   passes : test page ≡ true
-  passes = sym (own_now old now space page was.x was.had at) ∙ next.1
+  passes = sym (own_now old now space page it.x it.had it.at) ∙ next.1
 
   not_alone : (r : ℕ) → has_own (books old) space r ≡ true → is_alone (books old) space r ≡ false
   not_alone r own = by_test (is_alone (books old) space r) refl
@@ -78,19 +69,19 @@ module _ (old now : State) (space from page : ℕ) (apart : ArePagesApart old sp
       by_test false e = e
       by_test true e = let no = sym own ∙ none r e in cc
 
-  altered_more : (frame : ℕ) → IsNewFrame now frame → HaveAltered seen_page (so_far test (page + 1)) (alone_in old space) old (put_page now space page (copied frame was.x)) space
+  altered_more : (frame : ℕ) → IsNewFrame now frame → HaveAltered seen_page (so_far test (page + 1)) (alone_in old space) old (put_page now space page (copied frame it.x)) space
   altered_more frame fresh =
-      said_again seen_page _ _ (alone_in old space) old (put_page now space page (copied frame was.x)) space
-      (copied_one (so_far test page) old now space page was.x reached was.had unaltered (not_alone page passes) frame fresh)
+      said_again seen_page _ _ (alone_in old space) old (put_page now space page (copied frame it.x)) space
+      (copied_one (so_far test page) old now space page it.x it.reached it.had it.unaltered (not_alone page passes) frame fresh)
       (λ r x had. next_done test page r passes)
 
   -- the units with it are at most those after the last one
   room_now : is_alone (books now) space page ≡ false → HasCopyRoom now space page
   room_now shared x there =
       let le = room_on_the_way (books old) space (origins_apart old space apart) (λ r. alone_in old space r || nat_lt r page) (books now)
-      (retold (so_far test page) (both_tests test (λ r. alone_in old space r || nat_lt r page)) (alone_in old space) (books old) (books now) space reached.ledger (λ r x had. alone_too r))
+      (retold (so_far test page) (both_tests test (λ r. alone_in old space r || nat_lt r page)) (alone_in old space) (books old) (books now) space it.reached.ledger (λ r x had. alone_too r))
       (λ r alone. ap (λ b. b || nat_lt r page) alone) page (held_page now.zero_frame x) passes (not_alone page passes) (held_there now space page x there) shared in
-      let frames = reached.frames in
+      let frames = it.reached.frames in
       omega (arith, le, fits, frames)
     where
       alone_too : (r : ℕ) → both_tests test (λ r. alone_in old space r || nat_lt r page) r ≡ so_far test page r
@@ -104,7 +95,7 @@ module _ (old now : State) (space from page : ℕ) (apart : ArePagesApart old sp
   can_copy own = record { shared = shared; room = room_now shared }
     where
       shared : is_alone (books now) space page ≡ false
-      shared = alone_now seen_page (so_far test page) old now space page was.x apart reached unaltered was.had ∙ not_alone page passes
+      shared = alone_now seen_page (so_far test page) old now space page it.x apart it.reached it.unaltered it.had ∙ not_alone page passes
 
   pub copying_more : (new : State) → CopiesOwnWhere (has_own (books now) space page) now new space page → page < PAGE_END → IsCopying old new space (page + 1)
   copying_more new copies low = record { altered = moved; low = omega arith }
@@ -112,8 +103,8 @@ module _ (old now : State) (space from page : ℕ) (apart : ArePagesApart old sp
       at_true : IfSome (page_in now space page) (λ x. IsPlaced now new space page (λ frame. copied frame x))
       at_true = subst (λ b. CopiesOwnWhere b now new space page) next.1 copies
 
-      placed : IsPlaced now new space page (λ frame. copied frame was.x)
-      placed = subst (λ (o : Option PageState). IfSome o (λ x. IsPlaced now new space page (λ frame. copied frame x))) at at_true
+      placed : IsPlaced now new space page (λ frame. copied frame it.x)
+      placed = subst (λ (o : Option PageState). IfSome o (λ x. IsPlaced now new space page (λ frame. copied frame x))) it.at at_true
 
       moved : HaveAltered seen_page (so_far test (page + 1)) (alone_in old space) old new space
       moved = subst (λ (v : State). HaveAltered seen_page (so_far test (page + 1)) (alone_in old space) old v space) (sym placed.placed) (altered_more placed.frame placed.fresh)
@@ -150,14 +141,14 @@ module _ (old mid : State) (space : ℕ) (apart : ArePagesApart old space) (h : 
   pub none_left : NoneAlone mid space
   none_left = subst (λ (l : Ledger). (r : ℕ) → is_alone l space r ≡ true → has_own l space r ≡ false) (sym h.ledger) (none_alone (books old) space (origins_apart old space apart))
 
-  comes_to : AreAlike (ledger_after (Settle space) (books mid)) (ledger_after (Settle space) (books old))
-  comes_to =
+  same_end : AreAlike (ledger_after (Settle space) (books mid)) (ledger_after (Settle space) (books old))
+  same_end =
       subst (λ (l : Ledger). AreAlike (ledger_after (Settle space) l) (ledger_after (Settle space) (books old))) (sym h.ledger)
       (commits_first (books old) space (origins_apart old space apart))
 
   pub fits_still : FitsAfter (Settle space) old → FitsAfter (Settle space) mid
   fits_still fits =
-      let same = units_alike _ _ comes_to in
+      let same = units_alike _ _ same_end in
       let frames = h.settled.frames in
       omega (arith, same, fits, frames)
 
@@ -174,5 +165,5 @@ module _ (old mid : State) (space : ℕ) (apart : ArePagesApart old space) (h : 
       frames = k.settled.frames ∙ h.settled.frames;
       zero_frame = k.settled.zero_frame ∙ h.settled.zero_frame;
     };
-    ledger = alike_chain _ _ _ k.ledger comes_to;
+    ledger = alike_chain _ _ _ k.ledger same_end;
   }

@@ -1,4 +1,4 @@
-use Rattle.std.specs.Prelude.{◌≡◌, ℕ, suc, ◌==◌, ◌⊎◌, Bool, true, false, cond, nat_eq, nat_lt, ◌&&◌, ◌||◌, List, [], ◌∷◌, map, length, Option, Some, None, is_some, refl}
+use Rattle.std.specs.Prelude.{◌≡◌, ℕ, suc, ◌==◌, ◌⊎◌, Bool, true, false, cond, nat_eq, nat_le, nat_lt, ◌&&◌, ◌||◌, List, [], ◌∷◌, map, length, Option, Some, None, is_some, refl}
 use Rattle.std.proofs.Common.{sym, ap, subst, ◌∙◌, arith, inl, inr}
 use Rattle.std.proofs.lemmas.Bool.Decides.{nat_tests}
 use Rattle.std.specs.List.{fold, list_any}
@@ -9,15 +9,17 @@ use Rattle.std.specs.FinMap.Entries.{find}
 use Rattle.number_maps.specs.Keys.{by_key, tied}
 use Rattle.ledger.specs.Ledger.{Holding, Ledger, is_alone, is_unused, holding_at, pages_of, with_page, without_page}
 use Rattle.ledger.specs.Alike.{AreAlike}
-use Rattle.ledger.specs.Changes.{cleared, each_page, has_own, settled, without_own}
+use Rattle.ledger.specs.Changes.{cleared, each_page, has_own, is_large, settled, without_own}
 use Rattle.ledger.specs.Events.{Commit, Discard, Settle, SettlePage, ledger_after}
 use Rattle.ledger.specs.Origins.{new_origin}
 use Rattle.ledger.specs.PlaceLaws.{page_is, same_ledger}
 use Rattle.ledger.specs.AloneLaws.{unused_without}
 use Rattle.ledger.specs.OriginLaws.{new_is_unused}
+use Rattle.ledger.specs.StoreLaws.{large_absent, large_there}
 use Rattle.ledger.specs.RowLaws.{changed_absent, changed_there}
 use Rattle.overlay_memory.specs.ApartLaws.{AreOriginsApart}
 use Rattle.overlay_memory.specs.PageLaws.{own_absent, own_is}
+use Rattle.promotion.specs.Settled.{without_alone}
 use Rattle.promotion.specs.Fates.{AreTurned, HasFate, IsFate, bare_is, fate_same, none_altered, one_altered}
 use Rattle.promotion.specs.FateLaws.{alike_altered, alone_stays}
 
@@ -209,10 +211,18 @@ discard_turns before space =
     all_folded (λ r. true) (λ r. true) before space (λ now k. cleared now space k) (clear_idle space)
     (λ now k y e at. clear_acts now space k y true refl at)
 
-pub commit_turns : (before : Ledger) (space : ℕ) → AreTurned (is_alone before space) (is_alone before space) before (ledger_after (Commit space) before) space
-commit_turns before space =
+-- where each page that is alone lost its own lines
+pub alone_turns : (before : Ledger) (space : ℕ) → AreTurned (is_alone before space) (is_alone before space) before (without_alone space before) space
+unfolding without_alone
+alone_turns before space =
     all_folded (is_alone before space) (is_alone before space) before space (λ now k. cleared now space k) (clear_idle space)
     (λ now k y e at. clear_acts now space k y (is_alone before space k) e at)
+
+pub after_commit : (before : Ledger) (space : ℕ)
+    → AreTurned (λ r. is_alone before space r || is_large before space r) (is_alone before space) before (ledger_after (Commit space) before) space
+after_commit before space =
+    all_folded (λ r. is_alone before space r || is_large before space r) (is_alone before space) before space
+    (λ now k. settled before now space k) (settle_idle before space) (λ now k y e at. settle_acts before now space k y at)
 
 -- what a test of own lines says
 pub none_own : (xs : List ℕ) → nat_lt 0 (length xs) ≡ false → xs ≡ []
@@ -221,6 +231,14 @@ none_own (x ∷ xs) e = absurd (some (length xs) e)
   where
     some : (n : ℕ) → nat_lt 0 (suc n) ≡ false → ⊥
     some n e = grind (arith, nat_tests)
+
+-- a page without own lines hasn't 32
+pub bare_small : (l : Ledger) (space r : ℕ) → has_own l space r ≡ false → is_large l space r ≡ false
+bare_small l space r bare = by_page (holding_at l space r) refl
+  where
+    by_page : (o : Option Holding) → holding_at l space r ≡ o → is_large l space r ≡ false
+    by_page None is = large_absent l space r is
+    by_page (Some x) is = large_there l space r x is ∙ ap (λ (own : List ℕ). nat_le 32 (length own)) (none_own x.own (sym (own_is l space r x is) ∙ bare))
 
 -- the same, where pages that are alone and have no own lines are said to be settled too
 pub widened : (t u a : ℕ → Bool) (before now : Ledger) (space : ℕ) → AreTurned t a before now space
@@ -266,12 +284,12 @@ same_altered t a before l m space h k keeps = same_ledger l m (λ q. h.spaces q 
 -- After each page that is alone was settled, none that is alone has own lines, and settling the space comes to the same.
 module _ (before : Ledger) (space : ℕ) (apart : AreOriginsApart before space) where
   abbrev middle : Ledger
-  middle = ledger_after (Commit space) before
+  middle = without_alone space before
 
   committed : AreTurned (is_alone before space) (is_alone before space) before middle space
-  committed = commit_turns before space
+  committed = alone_turns before space
 
-  pub none_alone : (r : ℕ) → is_alone (ledger_after (Commit space) before) space r ≡ true → has_own (ledger_after (Commit space) before) space r ≡ false
+  pub none_alone : (r : ℕ) → is_alone (without_alone space before) space r ≡ true → has_own (without_alone space before) space r ≡ false
   none_alone r alone = by_page (holding_at before space r) refl
     where
       by_page : (o : Option Holding) → holding_at before space r ≡ o → has_own middle space r ≡ false
@@ -343,7 +361,7 @@ module _ (before : Ledger) (space : ℕ) (apart : AreOriginsApart before space) 
           kept false e w fate = fate
           kept true e w fate = cc
 
-  pub commits_first : AreAlike (ledger_after (Settle space) (ledger_after (Commit space) before)) (ledger_after (Settle space) before)
+  pub commits_first : AreAlike (ledger_after (Settle space) (without_alone space before)) (ledger_after (Settle space) before)
   commits_first =
       alike_altered (has_own before space) (is_alone before space) before (ledger_after (Settle space) middle)
       (ledger_after (Settle space) before) space twice (after_settle before space)

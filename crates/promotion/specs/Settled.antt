@@ -1,9 +1,9 @@
-use Rattle.std.specs.Prelude.{◌≡◌, ℕ, ◌&&◌, Bool, true, false, if◌then◌else◌, Result, Ok, Err, IfSome}
+use Rattle.std.specs.Prelude.{◌≡◌, ℕ, ◌&&◌, ◌||◌, Bool, true, false, if◌then◌else◌, Result, Ok, Err, IfSome}
 use Rattle.std.specs.FinMap.{get}
 use Rattle.ledger.specs.Alike.{AreAlike}
-use Rattle.ledger.specs.Changes.{has_own}
+use Rattle.ledger.specs.Changes.{cleared, each_page, has_own, is_large}
 use Rattle.ledger.specs.Events.{Event, Commit, Settle, ledger_after}
-use Rattle.ledger.specs.Ledger.{is_alone}
+use Rattle.ledger.specs.Ledger.{Ledger, is_alone}
 use Rattle.overlay_pages.specs.State.{State, base_of, books, memory_of}
 use Rattle.overlay_pages.specs.Changes.{HasCopyRoom, IsPlaced, committed, copied}
 use Rattle.overlay_memory.specs.View.{TranslatedView, state_of}
@@ -42,6 +42,10 @@ alone_in state space page = is_alone (books state) space page
 abbrev pub IsAfter : Event → State → State → Type 0
 IsAfter event old new = AreAlike (books new) (ledger_after event (books old))
 
+-- the ledger in which each page of a space that is alone lost its own lines
+unfoldable pub without_alone : ℕ → Ledger → Ledger
+without_alone space before = each_page before space (λ ledger page. if is_alone before space page then cleared ledger space page else ledger)
+
 -- no page of a space that is alone has own lines
 abbrev pub NoneAlone : State → ℕ → Type 0
 NoneAlone state space = (page : ℕ) → is_alone (books state) space page ≡ true → has_own (books state) space page ≡ false
@@ -49,12 +53,21 @@ NoneAlone state space = (page : ℕ) → is_alone (books state) space page ≡ t
 -- each page of a space that is alone was settled
 pub record HasCommittedAlone (old new : State) (space : ℕ) : Type 0 where
   pub settled : AreInFrames (alone_in old space) (mark_of old space) old new space
-  pub ledger : books new ≡ ledger_after (Commit space) (books old)
+  pub ledger : books new ≡ without_alone space (books old)
 
 -- each page of a space was settled
 pub record HasSettled (old new : State) (space : ℕ) : Type 0 where
   pub settled : AreInFrames every_page (mark_of old space) old new space
   pub ledger : IsAfter (Settle space) old new
+
+-- the pages of a space that are alone, and those that have 32 own lines or more
+abbrev pub alone_or_large_in : State → ℕ → ℕ → Bool
+alone_or_large_in state space page = is_alone (books state) space page || is_large (books state) space page
+
+-- each of them was settled
+pub record HasCommittedPages (old new : State) (space : ℕ) : Type 0 where
+  pub settled : AreInFrames (alone_or_large_in old space) (mark_of old space) old new space
+  pub ledger : IsAfter (Commit space) old new
 
 -- how settling a space comes out: each page is settled, or the units after that exceed the limit and nothing changed
 abbrev pub Settles : TranslatedView → TranslatedView → ℕ → Result (Unit {0}) Shortage → Type 0
@@ -75,6 +88,15 @@ CopiesOwnWhere false old new space page = new ≡ old
 
 abbrev pub CopiesOwn : State → State → ℕ → ℕ → Type 0
 CopiesOwn old new space page = CopiesOwnWhere (has_own (books old) space page) old new space page
+
+-- its own lines go into its frame where it is alone, and it gets a new frame where it isn't, and has 32 own lines or more
+abbrev pub CommitsWhere : Bool → Bool → State → State → ℕ → ℕ → Type 0
+CommitsWhere true large old new space page = new ≡ altered_page committed old space page
+CommitsWhere false true old new space page = CopiesOwnWhere true old new space page
+CommitsWhere false false old new space page = new ≡ old
+
+abbrev pub CommitsPage : State → State → ℕ → ℕ → Type 0
+CommitsPage old new space page = CommitsWhere (is_alone (books old) space page) (is_large (books old) space page) old new space page
 
 -- it can be copied: it isn't alone, and the units suffice
 pub record CanCopy (state : State) (space page : ℕ) : Type 0 where

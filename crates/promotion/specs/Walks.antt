@@ -7,9 +7,10 @@ use Rattle.ledger.specs.Changes.{has_own}
 use Rattle.space_maps.specs.Spaces.{page_in}
 use Rattle.space_ledger.specs.Calls.{IsNextOwn}
 use Rattle.overlay_pages.specs.State.{PageState, State, books}
+use Rattle.overlay_memory.specs.PageLaws.{own_there}
 use Rattle.overlay_memory.specs.Walked.{one_further}
 use Rattle.promotion.specs.FateFolds.{arent_same, or_page}
-use Rattle.promotion.specs.Altered.{HaveAltered, own_now, said_again, still}
+use Rattle.promotion.specs.Altered.{HaveAltered, own_now, said_again, still, was_there}
 
 -- The pages of a space with own lines, walked in ascending order.
 
@@ -86,6 +87,14 @@ module _ (test : ℕ → Bool) (page r : ℕ) where
       only : page ≤ r → r < page + 1 → r ≡ page
       only le lt = omega (arith, le, lt)
 
+-- The walk has come to a page: it wasn't altered yet, so it is what it was.
+pub record ComesTo (to : PageState → Page) (test a : ℕ → Bool) (old now : State) (space page : ℕ) : Type 0 where
+  pub reached : HaveAltered to (so_far test page) a old now space
+  pub unaltered : so_far test page page ≡ false
+  pub x : PageState
+  pub had : page_in old space page ≡ Some x
+  pub at : page_in now space page ≡ Some x
+
 -- The walk goes from one page with own lines to the next: those between fail the test.
 module _ (to : PageState → Page) (test a : ℕ → Bool) (old now : State) (space from : ℕ) (h : HaveAltered to (so_far test from) a old now space)
     (bare_fails : (q : ℕ) → has_own (books old) space q ≡ false → test q ≡ false) where
@@ -93,10 +102,22 @@ module _ (to : PageState → Page) (test a : ℕ → Bool) (old now : State) (sp
   fails_now q x had le bare =
       bare_fails q (sym (own_now old now space q x had (still to (so_far test from) a old now space q x h had (not_yet test from q le))) ∙ bare)
 
-  pub come_to : (page : ℕ) → IsNextOwn (books now) space from (Some page) → HaveAltered to (so_far test page) a old now space
+  come_to : (page : ℕ) → IsNextOwn (books now) space from (Some page) → HaveAltered to (so_far test page) a old now space
   come_to page next =
       said_again to (so_far test from) (so_far test page) a old now space h
       (λ r x had. passed test from page r next.0 (λ le lt. fails_now r x had le (next.2 r le lt)))
+
+  pub comes_to : (page : ℕ) → IsNextOwn (books now) space from (Some page) → ComesTo to test a old now space page
+  comes_to page next =
+      let reached = come_to page next in
+      let was = was_there to (so_far test page) a old now space page reached (own_there now space page next.1) in
+      let unaltered = not_yet test page page (omega arith) in record {
+        reached = reached;
+        unaltered = unaltered;
+        x = was.x;
+        had = was.had;
+        at = still to (so_far test page) a old now space page was.x reached was.had unaltered;
+      }
 
   pub come_past : IsNextOwn (books now) space from None → HaveAltered to test a old now space
   come_past none =

@@ -6,13 +6,16 @@
 //! - `units`: the units after pages are settled, before any is
 //! - `settling`: each page with own lines is settled, those that are alone first
 //! - `promoting`: one page, or all of a space
+//! - `committing`: pages that are alone, and those that have 32 own lines or more
 #![tactic(auto)]
 
+mod committing;
 mod error;
 mod promoting;
 mod settling;
 mod units;
 
+pub use committing::commit_pages;
 pub use error::PromoteError;
 pub use promoting::{promote, promote_all};
-pub use settling::{commit_alone, settle};
+pub use settling::settle;

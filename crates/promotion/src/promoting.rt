@@ -44,14 +44,13 @@ fn settle_page(mem: &mut OverlayMemory, space: u16, page: u64) -> Result<(), Sho
     Ok(())
 }
 
-// Removes the translations of a space that isn't speculating.
+// Removes the translations of a space, whose mark stays.
 fn forget_translations(mem: &mut OverlayMemory, space: u16)
     requires there { holds_space (state_of mem.old) space ≡ true }
-    requires unmarked { (space_in (state_of mem.old) space).speculating ≡ false }
     ensures state { state_of mem.new ≡ state_of mem.old }
     ensures translations { translations_of mem.new ≡ flushed space (translations_of mem.old) }
 {
-    mem.set_speculating(space, false);
+    mem.set_speculating(space, mem.is_speculating(space));
 }
 
 /// Settles a page: one without own lines stays; the own lines of one that is alone go into its frame; any other gets a new frame

@@ -28,9 +28,9 @@ fn commit_one(mem: &mut OverlayMemory, space: u16, page: u64)
     mem.commit_page(space, page);
 }
 
-/// The own lines of each page of a space that is alone go into its frame; the others stay. The units become no more. Takes no
-/// memory. Costs a few look-ups for each page with own lines, and a copy of each own line of those that are alone.
-pub fn commit_alone(mem: &mut OverlayMemory, space: u16)
+// The own lines of each page of a space that is alone go into its frame; the others stay. The units become no more. Costs a few
+// look-ups for each page with own lines, and a copy of each own line of those that are alone.
+fn commit_alone(mem: &mut OverlayMemory, space: u16)
     requires there { holds_space (state_of mem.old) space ≡ true }
     ensures committed { HasCommittedAlone (state_of mem.old) (state_of mem.new) space }
     ensures lists { KeepsOtherTranslations space mem.old mem.new }

@@ -16,11 +16,9 @@ signed_text (negsuc n) = codes "-" ++ in_decimal (n + 1)
 abbrev pub hex_digit : ℕ → ℕ
 hex_digit d = if nat_lt d 10 then 48 + d else 87 + d
 
-unfoldable pub in_hexadecimal : ℕ → List ℕ
-in_hexadecimal n = if n == 0 then codes "0" else map hex_digit (digits_of 16 n)
-
-abbrev pub address_text : ℕ → List ℕ
-address_text at = codes "0x" ++ in_hexadecimal at
+-- an address
+unfoldable pub address_text : ℕ → List ℕ
+address_text at = codes "0x" ++ (if at == 0 then codes "0" else map hex_digit (digits_of 16 at))
 
 -- the last so many hexadecimal digits of a number, with leading zeros; and those of a word of 64 bits
 unfoldable pub hex_places : ℕ → ℕ → List ℕ

@@ -1,4 +1,4 @@
-use Rattle.std.specs.Prelude.{◌≡◌, ℕ, ◌==◌, ◌&&◌, ◌||◌, Bool, true, false, List, [], ◌∷◌, ◌++◌, codes, refl}
+use Rattle.std.specs.Prelude.{◌≡◌, ℕ, ◌==◌, ◌&&◌, ◌||◌, Bool, true, false, List, [], ◌∷◌, ◌++◌, flat_map, codes, refl, if◌then◌else◌}
 use Rattle.std.proofs.Common.{sym, ap, ◌∙◌}
 use Rattle.ovl_io.specs.declared.process_state.FaultKind.{FaultKind}
 use Rattle.ovl_io.specs.declared.process_state.ProcessState.{ProcessState}
@@ -13,9 +13,9 @@ use Rattle.rv_decode.specs.declared.names.Name.{Name}
 use Rattle.rv_decode.specs.Table.{is_base}
 use Rattle.report_text.specs.Digits.{in_decimal, address_text, hex_places, word_text}
 use Rattle.report_text.specs.Names.{kind_text, code_text, stop_word}
-use Rattle.report_text.specs.Texts.{bytes_text, port_text, state_text, pages_text, dumped_text}
+use Rattle.report_text.specs.Texts.{byte_text, state_text, pages_text}
 use Rattle.report_text.specs.Instructions.{instruction_text}
-use Rattle.report_text.specs.Lines.{loaded_line, forked_line, saved_line, refused_line, full_line, wrote_line, exited_line, faulted_line, full_turn_line, break_line, ran_line, list_line, process_line, checkpoint_line, stats_line, regs_line, register_name, register_line, dump_line, disasm_line, disasm_line_by}
+use Rattle.report_text.specs.Lines.{loaded_line, forked_line, saved_line, refused_line, full_line, wrote_line, exited_line, faulted_line, full_turn_line, break_line, ran_line, list_line, process_line, checkpoint_line, stats_line, regs_line, register_line, dump_line, disasm_line, disasm_line_by}
 use Rattle.report_text.specs.Answers.{answer_text, turn_text, stop_text}
 
 -- Whether a line of a report begins with the word `full`, as those do that say that there weren't units enough.
@@ -102,7 +102,7 @@ ends_full : (units limit : ℕ) → EndsLine (full_line units limit)
 ends_full units limit = line (codes "full " ++ in_decimal units ++ codes " " ++ in_decimal limit)
 
 ends_wrote : (p port : ℕ) (bytes : List ℕ) → EndsLine (wrote_line p port bytes)
-ends_wrote p port bytes = line (port_text port ++ in_decimal p ++ codes " " ++ bytes_text bytes)
+ends_wrote p port bytes = line ((if port == 1 then codes "out " else codes "err ") ++ in_decimal p ++ codes " " ++ flat_map byte_text bytes)
 
 ends_exited : (p exit : ℕ) → EndsLine (exited_line p exit)
 ends_exited p exit = line (codes "exited " ++ in_decimal p ++ codes " " ++ in_decimal exit)
@@ -135,10 +135,10 @@ pub ends_regs : (p : ℕ) (state : ProcessState) (speculating : Bool) → EndsLi
 ends_regs p state speculating = line (codes "regs " ++ in_decimal p ++ codes " " ++ state_text state speculating)
 
 pub ends_register : (i value : ℕ) → EndsLine (register_line i value)
-ends_register i value = line (register_name i ++ codes " " ++ word_text value)
+ends_register i value = line ((if i == 0 then codes "pc" else codes "x" ++ in_decimal i) ++ codes " " ++ word_text value)
 
 pub ends_dump : (at : ℕ) (bytes : List ℕ) → EndsLine (dump_line at bytes)
-ends_dump at bytes = line (word_text at ++ dumped_text bytes)
+ends_dump at bytes = line (word_text at ++ flat_map (λ b. codes " " ++ hex_places 2 b) bytes)
 
 pub ends_disasm_by : (has : Name → Bool) (at word : ℕ) → EndsLine (disasm_line_by has at word)
 ends_disasm_by has at word = line (word_text at ++ codes " " ++ hex_places 8 word ++ codes " " ++ instruction_text has word)

@@ -1,4 +1,5 @@
-use Rattle.std.specs.Prelude.{ℕ, Bool, ◌%◌, ◌^◌, ◌==◌, ◌||◌, ℤ, pos, int_div, List, [], ◌++◌, Option, Some, None, codes, if◌then◌else◌}
+use Rattle.std.specs.Prelude.{ℕ, Bool, ◌%◌, ◌^◌, ◌==◌, ◌||◌, ℤ, pos, int_div, List, [], ◌++◌, codes, if◌then◌else◌}
+use Rattle.std.specs.Option.{option_map_or}
 use Rattle.rv_decode.specs.declared.instruction.Instr.{Instr}
 use Rattle.rv_decode.specs.declared.names.Format.{Format}
 use Rattle.rv_decode.specs.declared.names.Format.TheVariants as format
@@ -13,10 +14,6 @@ use Rattle.report_text.specs.Digits.{in_decimal, signed_text}
 -- a register, by its number
 abbrev pub register_text : ℕ → List ℕ
 register_text n = codes "x" ++ in_decimal n
-
--- three registers
-abbrev pub three_registers_text : ℕ → ℕ → ℕ → List ℕ
-three_registers_text a b c = codes " " ++ register_text a ++ codes ", " ++ register_text b ++ codes ", " ++ register_text c
 
 -- two registers and an immediate
 abbrev pub two_registers_text : ℕ → ℕ → ℤ → List ℕ
@@ -44,7 +41,7 @@ i_operands row i =
 
 -- the operands of an instruction by its row's format; the immediate of the format U is a multiple of 2^12
 abbrev pub operands_by : Format → CaseRow → Instr → List ℕ
-operands_by format.R row i = three_registers_text i.rd i.rs1 i.rs2
+operands_by format.R row i = codes " " ++ register_text i.rd ++ codes ", " ++ register_text i.rs1 ++ codes ", " ++ register_text i.rs2
 operands_by format.I row i = i_operands row i
 operands_by format.S row i = offset_text i.rs2 i.imm i.rs1
 operands_by format.B row i = two_registers_text i.rs1 i.rs2 i.imm
@@ -54,14 +51,7 @@ operands_by format.H6 row i = two_registers_text i.rd i.rs1 i.imm
 operands_by format.H5 row i = two_registers_text i.rd i.rs1 i.imm
 operands_by format.N row i = []
 
-abbrev pub operands_text : CaseRow → Instr → List ℕ
-operands_text row i = operands_by row.format row i
-
--- what a word means
-abbrev pub meaning_text : Option Instr → List ℕ
-meaning_text None = codes "illegal"
-meaning_text (Some i) = text_of i.name ++ operands_text (row_of i.name) i
-
--- by the table of these names
+-- what a word means by the table of these names
 unfoldable pub instruction_text : (Name → Bool) → ℕ → List ℕ
-instruction_text has word = meaning_text (meaning_by has word)
+instruction_text has word =
+    option_map_or (λ i. text_of i.name ++ operands_by (row_of i.name).format (row_of i.name) i) (meaning_by has word) (codes "illegal")

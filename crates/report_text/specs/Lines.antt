@@ -1,4 +1,4 @@
-use Rattle.std.specs.Prelude.{ℕ, ◌==◌, Bool, List, ◌++◌, codes, if◌then◌else◌}
+use Rattle.std.specs.Prelude.{ℕ, ◌==◌, Bool, List, ◌++◌, flat_map, codes, if◌then◌else◌}
 use Rattle.ovl_io.specs.declared.process_state.FaultKind.{FaultKind}
 use Rattle.ovl_io.specs.declared.process_state.ProcessState.{ProcessState}
 use Rattle.report_text.specs.declared.answer.Code.{Code}
@@ -7,7 +7,7 @@ use Rattle.rv_decode.specs.declared.names.Name.{Name}
 use Rattle.rv_decode.specs.Table.{is_base}
 use Rattle.report_text.specs.Digits.{in_decimal, address_text, hex_places, word_text}
 use Rattle.report_text.specs.Names.{kind_text, code_text, stop_word}
-use Rattle.report_text.specs.Texts.{bytes_text, port_text, state_text, pages_text, dumped_text}
+use Rattle.report_text.specs.Texts.{byte_text, state_text, pages_text}
 use Rattle.report_text.specs.Instructions.{instruction_text}
 
 -- The lines of the report. Each ends with the byte 0A; its words are divided by one blank.
@@ -39,9 +39,10 @@ full_line units limit = codes "full " ++ in_decimal units ++ codes " " ++ in_dec
 abbrev pub bad_line : ℕ → List ℕ
 bad_line k = codes "bad line " ++ in_decimal k ++ codes "\n"
 
--- what a process wrote to a port
+-- what a process wrote to a port: to port 1 it goes out, to port 2 it is an error
 abbrev pub wrote_line : ℕ → ℕ → List ℕ → List ℕ
-wrote_line p port bytes = port_text port ++ in_decimal p ++ codes " " ++ bytes_text bytes ++ codes "\n"
+wrote_line p port bytes =
+    (if port == 1 then codes "out " else codes "err ") ++ in_decimal p ++ codes " " ++ flat_map byte_text bytes ++ codes "\n"
 
 abbrev pub exited_line : ℕ → ℕ → List ℕ
 exited_line p exit = codes "exited " ++ in_decimal p ++ codes " " ++ in_decimal exit ++ codes "\n"
@@ -86,15 +87,12 @@ abbrev pub regs_line : ℕ → ProcessState → Bool → List ℕ
 regs_line p state speculating = codes "regs " ++ in_decimal p ++ codes " " ++ state_text state speculating ++ codes "\n"
 
 -- a register, by its number; the pc stands in the place of x0
-abbrev pub register_name : ℕ → List ℕ
-register_name i = if i == 0 then codes "pc" else codes "x" ++ in_decimal i
-
 abbrev pub register_line : ℕ → ℕ → List ℕ
-register_line i value = register_name i ++ codes " " ++ word_text value ++ codes "\n"
+register_line i value = (if i == 0 then codes "pc" else codes "x" ++ in_decimal i) ++ codes " " ++ word_text value ++ codes "\n"
 
--- bytes of memory, and the address of the first
+-- bytes of memory, for each a blank and its two hexadecimal digits, behind the address of the first
 abbrev pub dump_line : ℕ → List ℕ → List ℕ
-dump_line at bytes = word_text at ++ dumped_text bytes ++ codes "\n"
+dump_line at bytes = word_text at ++ flat_map (λ b. codes " " ++ hex_places 2 b) bytes ++ codes "\n"
 
 -- a word of memory as an instruction: its address, the word, and what it means
 abbrev pub disasm_line_by : (Name → Bool) → ℕ → ℕ → List ℕ

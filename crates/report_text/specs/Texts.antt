@@ -1,7 +1,7 @@
-use Rattle.std.specs.Prelude.{ℕ, ◌/◌, ◌%◌, ◌==◌, ◌&&◌, not, nat_le, flat_map, Bool, List, [], ◌∷◌, ◌++◌, codes, if◌then◌else◌}
+use Rattle.std.specs.Prelude.{ℕ, ◌/◌, ◌%◌, ◌==◌, ◌&&◌, not, nat_le, Bool, List, [], ◌∷◌, ◌++◌, codes, if◌then◌else◌}
 use Rattle.ovl_io.specs.declared.process_state.ProcessState.{ProcessState}
 use Rattle.ovl_io.specs.declared.process_state.ProcessState.TheVariants as state
-use Rattle.report_text.specs.Digits.{hex_digit, hex_places, in_decimal, address_text}
+use Rattle.report_text.specs.Digits.{hex_digit, in_decimal, address_text}
 use Rattle.report_text.specs.Names.{kind_text}
 
 -- Parts of lines.
@@ -14,29 +14,15 @@ is_plain b = nat_le 32 b && nat_le b 126 && not (b == 92)
 abbrev pub byte_text : ℕ → List ℕ
 byte_text b = if is_plain b then b ∷ [] else 92 ∷ hex_digit (b / 16) ∷ hex_digit (b % 16) ∷ []
 
-abbrev pub bytes_text : List ℕ → List ℕ
-bytes_text bytes = flat_map byte_text bytes
-
--- what is written to port 1 goes out, what is written to port 2 is an error
-abbrev pub port_text : ℕ → List ℕ
-port_text port = if port == 1 then codes "out " else codes "err "
-
 -- a process's state by itself
 abbrev pub bare_state_text : ProcessState → List ℕ
 bare_state_text state.Running = codes "running"
 bare_state_text (state.Exited exit) = codes "exited " ++ in_decimal exit
 bare_state_text (state.Faulted kind at) = codes "faulted " ++ kind_text kind ++ codes " " ++ address_text at
 
-abbrev pub speculating_text : Bool → List ℕ
-speculating_text speculating = if speculating then codes " speculating" else []
-
 -- a process's state, and whether it is speculating
 abbrev pub state_text : ProcessState → Bool → List ℕ
-state_text state speculating = bare_state_text state ++ speculating_text speculating
+state_text state speculating = bare_state_text state ++ (if speculating then codes " speculating" else [])
 
 abbrev pub pages_text : ℕ → List ℕ
 pages_text pages = codes " pages " ++ in_decimal pages
-
--- bytes of memory: for each a blank and its two hexadecimal digits
-abbrev pub dumped_text : List ℕ → List ℕ
-dumped_text bytes = flat_map (λ b. codes " " ++ hex_places 2 b) bytes

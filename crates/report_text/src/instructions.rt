@@ -1,10 +1,10 @@
 //! The text of a word of memory as an instruction. The opcode of a row is bits 0 to 6 of its word, as in the table
 //! "RISC-V base opcode map" of the RISC-V Unprivileged ISA manual.
 
-ghost use Rattle.std.specs.Prelude.{◌≡◌, ◌+◌, ◌≤◌, ◌++◌};
+ghost use Rattle.std.specs.Prelude.{◌≡◌, ◌+◌, ◌≤◌, ◌++◌, codes};
 ghost use Rattle.arrayvec.specs.ArrayVec.{array_vec_len};
 ghost use Rattle.rv_decode.specs.Table.{row_of};
-ghost use Rattle.report_text.specs.Instructions.{register_text, three_registers_text, two_registers_text, offset_text, one_register_text, opcode, i_operands, operands_text, instruction_text};
+ghost use Rattle.report_text.specs.Instructions.{register_text, two_registers_text, offset_text, one_register_text, opcode, i_operands, operands_by, instruction_text};
 
 use crate::push::{push_decimal, push_signed, push_text};
 use crate::{LINE_ROOM, Line};
@@ -23,7 +23,8 @@ fn push_register(line: &mut Line, n: u8)
 /// Three registers.
 fn push_three_registers(line: &mut Line, a: u8, b: u8, c: u8)
     requires { array_vec_len line.old + 96 ≤ LINE_ROOM }
-    ensures text { line.new.items ≡ line.old.items ++ three_registers_text a b c }
+    ensures text { line.new.items ≡ line.old.items ++ codes " " ++ register_text a ++ codes ", "
+        ++ register_text b ++ codes ", " ++ register_text c }
     ensures len { array_vec_len line.new ≤ array_vec_len line.old + 96 }
 {
     push_text(line, b" ");
@@ -101,7 +102,7 @@ fn push_i_operands(line: &mut Line, row: CaseRow, i: Instr)
 /// The operands of an instruction, by its row.
 fn push_operands(line: &mut Line, row: CaseRow, i: Instr)
     requires { array_vec_len line.old + 96 ≤ LINE_ROOM }
-    ensures text { line.new.items ≡ line.old.items ++ operands_text row i }
+    ensures text { line.new.items ≡ line.old.items ++ operands_by row.format row i }
     ensures len { array_vec_len line.new ≤ array_vec_len line.old + 96 }
 {
     match row.format {

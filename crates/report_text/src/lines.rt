@@ -1,6 +1,7 @@
-ghost use Rattle.std.specs.Prelude.{◌≡◌, ◌+◌, ◌*◌, ◌==◌, ◌||◌, ◌≤◌, ◌++◌, length, IsTrue};
+ghost use Rattle.std.specs.Prelude.{◌≡◌, ◌+◌, ◌*◌, ◌==◌, ◌||◌, ◌≤◌, ◌++◌, codes, length, IsTrue, if◌then◌else◌};
 ghost use Rattle.arrayvec.specs.ArrayVec.{array_vec_len};
-ghost use Rattle.report_text.specs.Lines.{loaded_line, forked_line, saved_line, refused_line, full_line, bad_line, wrote_line, exited_line, faulted_line, full_turn_line, break_line, ran_line, list_line, process_line, checkpoint_line, stats_line, regs_line, register_name, register_line, dump_line, disasm_line_by};
+ghost use Rattle.report_text.specs.Digits.{in_decimal};
+ghost use Rattle.report_text.specs.Lines.{loaded_line, forked_line, saved_line, refused_line, full_line, bad_line, wrote_line, exited_line, faulted_line, full_turn_line, break_line, ran_line, list_line, process_line, checkpoint_line, stats_line, regs_line, register_line, dump_line, disasm_line_by};
 ghost use Rattle.report_text.specs.Answers.{IsCheckpointName, HasCodeLine};
 
 use crate::instructions::push_instruction;
@@ -258,7 +259,7 @@ pub(crate) fn put_regs(line: &mut Line, p: u16, state: &ProcessState, speculatin
 /// The name of a register, or of the pc.
 fn put_name(line: &mut Line, i: u8)
     requires { array_vec_len line.old + 32 ≤ LINE_ROOM }
-    ensures text { line.new.items ≡ line.old.items ++ register_name i }
+    ensures text { line.new.items ≡ line.old.items ++ (if i == 0 then codes "pc" else codes "x" ++ in_decimal i) }
     ensures len { array_vec_len line.new ≤ array_vec_len line.old + 32 }
 {
     if i == 0 {

@@ -1,7 +1,7 @@
-ghost use Rattle.std.specs.Prelude.{◌≡◌, ◌+◌, ◌==◌, ◌||◌, ◌≤◌, ◌++◌, length, IsTrue};
+ghost use Rattle.std.specs.Prelude.{◌≡◌, ◌+◌, ◌==◌, ◌||◌, ◌≤◌, ◌++◌, [], codes, length, IsTrue, if◌then◌else◌};
 ghost use Rattle.arrayvec.specs.ArrayVec.{array_vec_len};
 ghost use Rattle.report_text.specs.Names.{kind_text, elf_text, code_text, stop_word};
-ghost use Rattle.report_text.specs.Texts.{port_text, bare_state_text, speculating_text, state_text, pages_text};
+ghost use Rattle.report_text.specs.Texts.{bare_state_text, state_text, pages_text};
 ghost use Rattle.report_text.specs.Answers.{HasElfLine, HasCodeLine};
 
 use crate::push::{push_address, push_decimal, push_text};
@@ -98,7 +98,7 @@ pub(crate) fn stop_word(stop: &Stop) -> &'static [u8]
 /// Where what a process writes to a port goes.
 pub(crate) fn port_text(port: u8) -> &'static [u8]
     requires { IsTrue (port == 1 || port == 2) }
-    ensures text { result.now ≡ port_text port }
+    ensures text { result.now ≡ (if port == 1 then codes "out " else codes "err ") }
     ensures short { length result.now ≤ 32 }
 {
     if port == 1 {
@@ -133,7 +133,7 @@ fn push_bare_state(line: &mut Line, state: &ProcessState)
 
 /// Whether a process is speculating.
 fn speculating_text(speculating: bool) -> &'static [u8]
-    ensures text { result.now ≡ speculating_text speculating }
+    ensures text { result.now ≡ (if speculating then codes " speculating" else []) }
     ensures short { length result.now ≤ 32 }
 {
     if speculating { b" speculating" } else { b"" }

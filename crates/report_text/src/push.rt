@@ -1,8 +1,8 @@
-ghost use Rattle.std.specs.Prelude.{◌≡◌, ◌+◌, ◌*◌, ◌^◌, ◌<◌, ◌≤◌, ◌++◌, length, map};
+ghost use Rattle.std.specs.Prelude.{◌≡◌, ◌+◌, ◌*◌, ◌^◌, ◌<◌, ◌≤◌, ◌++◌, length, map, flat_map, codes};
 ghost use Rattle.std.specs.Int.Digits.{digits_of};
 ghost use Rattle.arrayvec.specs.ArrayVec.{array_vec_len};
-ghost use Rattle.report_text.specs.Digits.{hex_digit, hex_places, in_decimal, signed_text, in_hexadecimal, address_text, word_text};
-ghost use Rattle.report_text.specs.Texts.{is_plain, byte_text, bytes_text, dumped_text};
+ghost use Rattle.report_text.specs.Digits.{hex_digit, hex_places, in_decimal, signed_text, address_text, word_text};
+ghost use Rattle.report_text.specs.Texts.{is_plain, byte_text};
 
 use crate::LINE_ROOM;
 use arrayvec::ArrayVec;
@@ -60,7 +60,7 @@ fn push_digits(line: &mut Line, n: u64, places: u32)
 }
 
 /// An address in hexadecimal digits, at most 16, behind `0x`.
-#[tactic(auto, unfolding(crate::specs::Digits::in_hexadecimal))]
+#[tactic(auto, unfolding(crate::specs::Digits::address_text))]
 pub(crate) fn push_address(line: &mut Line, address: u64)
     requires { array_vec_len line.old + 18 ≤ LINE_ROOM }
     ensures text { line.new.items ≡ line.old.items ++ address_text address }
@@ -98,7 +98,7 @@ pub(crate) fn push_word(line: &mut Line, n: u64)
 /// Bytes of memory, for each a blank and its two hexadecimal digits.
 pub(crate) fn push_dumped(line: &mut Line, bytes: &[u8])
     requires { array_vec_len line.old + 3 * length bytes.now ≤ LINE_ROOM }
-    ensures text { line.new.items ≡ line.old.items ++ dumped_text bytes.now }
+    ensures text { line.new.items ≡ line.old.items ++ flat_map (λ b. codes " " ++ hex_places 2 b) bytes.now }
     ensures len { array_vec_len line.new ≤ array_vec_len line.old + 3 * length bytes.now }
 {
     for b in bytes {
@@ -132,7 +132,7 @@ fn push_byte(line: &mut Line, b: u8)
 /// The bytes that a process wrote.
 pub(crate) fn push_bytes(line: &mut Line, bytes: &[u8])
     requires { array_vec_len line.old + 3 * length bytes.now ≤ LINE_ROOM }
-    ensures text { line.new.items ≡ line.old.items ++ bytes_text bytes.now }
+    ensures text { line.new.items ≡ line.old.items ++ flat_map byte_text bytes.now }
     ensures len { array_vec_len line.new ≤ array_vec_len line.old + 3 * length bytes.now }
 {
     for b in bytes {

@@ -120,14 +120,10 @@ abbrev pub decoded_by : InstructionTable → Option Instr → Registers → Memo
 decoded_by table None regs memory = fault regs memory kind.Illegal regs.pc []
 decoded_by table (Some i) regs memory = effect (action_by table i regs) i.rd regs memory
 
--- what follows where the fetch gave this word
-abbrev pub word_effect : InstructionTable → ℕ → Registers → Memory → Execution
-word_effect table word regs memory = decoded_by table (meaning_by table.has word) regs memory
-
 -- what follows where the fetch fails there, or doesn't
 abbrev pub fetch_effect_by : InstructionTable → Option ℕ → Registers → Memory → Execution
 fetch_effect_by table (Some address) regs memory = fault regs memory kind.Fetch address []
-fetch_effect_by table None regs memory = word_effect table (word_at memory regs.pc) regs memory
+fetch_effect_by table None regs memory = decoded_by table (meaning_by table.has (word_at memory regs.pc)) regs memory
 
 -- with a call before the others
 abbrev pub after : Call → Execution → Execution
@@ -139,6 +135,10 @@ execution_by table regs memory =
     if regs.pc % 4 == 0
     then after (Fetch regs.pc) (fetch_effect_by table (denied_at memory (fetch_at regs.pc)) regs memory)
     else fault regs memory kind.Align regs.pc []
+
+-- what follows where the fetch gave this word
+abbrev pub word_effect : InstructionTable → ℕ → Registers → Memory → Execution
+word_effect table word regs memory = decoded_by table (meaning_by table.has word) regs memory
 
 -- all these of RV64I
 abbrev pub action_on : Instr → Registers → Action

@@ -26,54 +26,40 @@ pub record Request : Type 0 where
 abbrev pub answered : ℕ → Registers → List Access → Request
 answered value regs accesses = record { registers = with_register regs 10 value; turn = Stepped; accesses = accesses }
 
--- the 64-bit numbers -9, -14 and -38
-abbrev pub bad_descriptor : ℕ
-bad_descriptor = 2 ^ 64 - 9
-
-abbrev pub bad_address : ℕ
-bad_address = 2 ^ 64 - 14
-
-abbrev pub no_such_request : ℕ
-no_such_request = 2 ^ 64 - 38
-
 -- how many bytes a write prints at most
 abbrev pub write_count : Registers → ℕ
 write_count regs = min (register regs 12) MOST_WRITTEN
 
--- a write of n bytes to descriptor 1 or 2 whose buffer fails there, or doesn't
+-- a write of n bytes to descriptor 1 or 2
 abbrev pub printed : ℕ → Registers → Memory → List Access → Request
 printed n regs memory accesses =
-    if n == 0
-    then answered 0 regs accesses
-    else record {
-      registers = with_register regs 10 n;
-      turn = Wrote (register regs 10, bytes_at memory (register regs 11) n);
-      accesses = accesses;
-    }
+    if n == 0 then answered 0 regs accesses
+    else record (answered n regs accesses) { turn = Wrote (register regs 10, bytes_at memory (register regs 11) n) }
 
+-- the same where its buffer fails there, or doesn't. A bad address is the 64-bit number -14.
 abbrev pub buffered : Option ℕ → ℕ → Registers → Memory → List Access → Request
-buffered (Some at) n regs memory accesses = answered bad_address regs accesses
+buffered (Some at) n regs memory accesses = answered (2 ^ 64 - 14) regs accesses
 buffered None n regs memory accesses = printed n regs memory accesses
 
--- 64: write. Another descriptor is refused before the buffer is looked at.
+-- 64: write. Another descriptor is refused, by -9, before the buffer is looked at.
 abbrev pub write : Registers → Memory → Request
 write regs memory =
     let buffer = load_at (register regs 11) (write_count regs) in
     if (register regs 10 == 1) || (register regs 10 == 2)
     then buffered (denied_at memory buffer) (write_count regs) regs memory (buffer ∷ [])
-    else answered bad_descriptor regs []
+    else answered (2 ^ 64 - 9) regs []
 
 -- 93, 94: exit with the low 8 bits of a0
 abbrev pub exit : Registers → Request
 exit regs = record { registers = regs; turn = Exited (register regs 10 % 256); accesses = [] }
 
--- 172: the process's number; anything else is no request
+-- 172: the process's number; anything else is no request, which -38 says
 abbrev pub request : ℕ → Registers → Memory → Request
 request number regs memory =
     if register regs 17 == 64 then write regs memory
     else (if (register regs 17 == 93) || (register regs 17 == 94) then exit regs
     else (if register regs 17 == 172 then answered number regs []
-    else answered no_such_request regs []))
+    else answered (2 ^ 64 - 38) regs []))
 
 -- what comes of an execution
 abbrev pub altered : ℕ → Upshot → Registers → Memory → List Access → Step

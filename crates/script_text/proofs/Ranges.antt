@@ -1,5 +1,5 @@
 use Rattle.std.proofs.Common.{◌≡◌, ℕ, ◌≤◌, ◌-◌, ◌^◌, ◌&&◌, nat_le, nat_eq, refl, Bool, true, false, cond, List, [], ◌∷◌, length, drop, codes, subst, arith, Option, Some, None}
-use Rattle.std.specs.Option.{IfSome, option_or, option_map}
+use Rattle.std.specs.Option.{IfSome, option_and_then, option_map_or, option_or}
 use Rattle.std.specs.List.{list_all}
 use Rattle.std.proofs.lemmas.Bool.{and_parts}
 use Rattle.std.proofs.lemmas.Bool.Decides.{nat_tests}
@@ -9,15 +9,15 @@ use Rattle.ovl_io.specs.declared.perms.Perms.{Perms}
 use Rattle.script_text.specs.declared.TheConstants.{MOST_CHECKPOINT_NAME, MOST_DUMPED, MOST_PAGES, MOST_TURNS, MOST_WORDS, PC_NUMBER}
 use Rattle.sizes.specs.declared.TheConstants.{LAST_SPACE, MOST_FILE_NAME}
 use Rattle.script_text.specs.declared.command.Command.{Command}
-use Rattle.script_text.specs.declared.command.Command.TheVariants.{Exec, Load, Fork, Run, Step, Checkpoint, Restore, Forget, Speculate, Commit, Discard, Promote, Drop}
+use Rattle.script_text.specs.declared.command.Command.TheVariants.{Exec, Load, Fork, Run, Step, Checkpoint, Restore, Forget, Speculate, Commit, Discard, Promote, PromoteAll, Drop}
 use Rattle.script_text.specs.declared.command.Command.TheVariants as command
-use Rattle.script_text.specs.declared.command.Meaning.TheVariants.{Does, Nothing}
+use Rattle.script_text.specs.declared.command.Meaning.TheVariants.{Does, Nothing, Outside}
 use Rattle.script_text.specs.Words.{words_of}
 use Rattle.script_text.specs.Lines.{without_return}
 use Rattle.script_text.specs.Numbers.{within, number_between, number_in}
 use Rattle.script_text.specs.Kinds.{Kind, is_file_name, file_word, is_name_byte, is_checkpoint_name, checkpoint_word, turns_word, process_word, address_word, begins_with, has_leading_zero, register_word, pages_word, perms_of_bits, is_text, perms_word, dumped_word, words_word, is_hex, bytes_of_pairs, hex_word, is_all, all_word}
-use Rattle.script_text.specs.Forms.{Form, forms, no_words, one_word, two_words, three_words, with_said, word_then, both, promote_all, made_by, command_of}
-use Rattle.script_text.specs.Script.{is_comment, as_command, meaning_of_words, meaning_of}
+use Rattle.script_text.specs.Forms.{Form, forms, no_words, one_word, two_words, three_words, word_then, made_by, command_of}
+use Rattle.script_text.specs.Script.{is_comment, meaning_of_words, meaning_of}
 use Rattle.script_text.specs.FormLaws.{◌beside◌}
 use Rattle.script_text.specs.Given.{IsGiven, IsTurns, IsProcess, IsAddress, IsRegister, IsPages, IsPerms, IsCheckpoint, IsDumped, IsPoked, IsWords}
 use Rattle.script_text.proofs.Pairs.{paired}
@@ -113,30 +113,12 @@ all_given word = where_true IsNamed (is_all word) tt (λ h. tt)
 
 -- what a row gives
 
-mapped : {A : Type 0} (P : A → Type 0) (make : A → Command) (o : Option A) → IfSome o P → ((a : A) → P a → IsGiven (make a)) → IfSome (option_map make o) IsGiven
-mapped P make None h given = tt
-mapped P make (Some a) h given = given a h
-
-one_given : {A : Type 0} (P : A → Type 0) (kind : Kind A) (make : A → Command) → ((w : List ℕ) → IfSome (kind w) P) → ((a : A) → P a → IsGiven (make a))
-    → (ws : List (List ℕ)) → IfSome (one_word kind make ws) IsGiven
-one_given P kind make has given [] = tt
-one_given P kind make has given (w ∷ []) = mapped P make (kind w) (has w) given
-one_given P kind make has given (w ∷ x ∷ ws) = tt
-
-both_given : {A B : Type 0} (P : A → Type 0) (Q : B → Type 0) (o : Option A) (p : Option B) (make : A → B → Command) → IfSome o P → IfSome p Q
-    → ((a : A) (b : B) → P a → Q b → IsGiven (make a b)) → IfSome (both o p make) IsGiven
-both_given P Q None p make h k given = tt
-both_given P Q (Some a) p make h k given = mapped Q (make a) p k (λ b q. given a b h q)
-
-two_given : {A B : Type 0} (P : A → Type 0) (Q : B → Type 0) (kind : Kind A) (other : Kind B) (make : A → B → Command) → ((w : List ℕ) → IfSome (kind w) P)
-    → ((w : List ℕ) → IfSome (other w) Q) → ((a : A) (b : B) → P a → Q b → IsGiven (make a b)) → (ws : List (List ℕ)) → IfSome (two_words kind other make ws) IsGiven
-two_given P Q kind other make has also given [] = tt
-two_given P Q kind other make has also given (w ∷ []) = tt
-two_given P Q kind other make has also given (w ∷ x ∷ []) = both_given P Q (kind w) (other x) make (has w) (also x) given
-two_given P Q kind other make has also given (w ∷ x ∷ y ∷ ws) = tt
+none_given : (command : Command) → IsGiven command → (ws : List (List ℕ)) → IfSome (no_words command ws) IsGiven
+none_given command given [] = given
+none_given command given (w ∷ ws) = tt
 
 said_given : {A : Type 0} (P : A → Type 0) (o : Option A) (make : A → Option Command) → IfSome o P → ((a : A) → P a → IfSome (make a) IsGiven)
-    → IfSome (with_said o make) IsGiven
+    → IfSome (option_and_then make o) IsGiven
 said_given P None make h given = tt
 said_given P (Some a) make h given = given a h
 
@@ -145,6 +127,15 @@ then_given : {A : Type 0} (P : A → Type 0) (kind : Kind A) (make : A → List 
 then_given P kind make has given [] = tt
 then_given P kind make has given (w ∷ ws) = said_given P (kind w) (λ a. make a ws) (has w) (λ a h. given a h ws)
 
+one_given : {A : Type 0} (P : A → Type 0) (kind : Kind A) (make : A → Command) → ((w : List ℕ) → IfSome (kind w) P) → ((a : A) → P a → IsGiven (make a))
+    → (ws : List (List ℕ)) → IfSome (one_word kind make ws) IsGiven
+one_given P kind make has given = then_given P kind (λ a. no_words (make a)) has (λ a h. none_given (make a) (given a h))
+
+two_given : {A B : Type 0} (P : A → Type 0) (Q : B → Type 0) (kind : Kind A) (other : Kind B) (make : A → B → Command) → ((w : List ℕ) → IfSome (kind w) P)
+    → ((w : List ℕ) → IfSome (other w) Q) → ((a : A) (b : B) → P a → Q b → IsGiven (make a b)) → (ws : List (List ℕ)) → IfSome (two_words kind other make ws) IsGiven
+two_given P Q kind other make has also given =
+    then_given P kind (λ a. one_word other (make a)) has (λ a h. one_given Q other (make a) also (λ b k. given a b h k))
+
 -- a process, an address, and a word of some kind
 at_address : {A : Type 0} (P : A → Type 0) (kind : Kind A) (make : ℕ → ℕ → A → Command) → ((w : List ℕ) → IfSome (kind w) P)
     → ((p a : ℕ) (b : A) → IsProcess p → IsAddress a → P b → IsGiven (make p a b)) → (ws : List (List ℕ))
@@ -152,10 +143,6 @@ at_address : {A : Type 0} (P : A → Type 0) (kind : Kind A) (make : ℕ → ℕ
 at_address P kind make has given ws =
     then_given IsProcess process_word (λ p. two_words address_word kind (make p)) process_given
     (λ p h. two_given IsAddress P address_word kind (make p) address_given has (λ a b k l. given p a b h k l)) ws
-
-none_given : (command : Command) → IsGiven command → (ws : List (List ℕ)) → IfSome (no_words command ws) IsGiven
-none_given command given [] = given
-none_given command given (w ∷ ws) = tt
 
 -- what the table gives
 
@@ -187,7 +174,7 @@ all_give =
     beside one_given IsProcess process_word Commit process_given (λ a h. h)
     beside one_given IsProcess process_word Discard process_given (λ a h. h)
     beside two_given IsProcess IsAddress process_word address_word Promote process_given address_given (λ a b h k. (h, k))
-    beside two_given IsProcess IsNamed process_word all_word promote_all process_given all_given (λ a b h k. h)
+    beside two_given IsProcess IsNamed process_word all_word (λ p all. PromoteAll p) process_given all_given (λ a b h k. h)
     beside none_given _ tt
     beside then_given IsProcess process_word (λ p. three_words address_word pages_word perms_word (command.Map p)) process_given
     (λ p h. then_given IsAddress address_word (λ a. two_words pages_word perms_word (command.Map p a)) address_given
@@ -208,7 +195,7 @@ all_give =
 
 -- what a line gives
 
-from_option : (t : Bool) (o : Option Command) (command : Command) → IfSome o IsGiven → Does command ≡ cond t Nothing (as_command o) → IsGiven command
+from_option : (t : Bool) (o : Option Command) (command : Command) → IfSome o IsGiven → Does command ≡ cond t Nothing (option_map_or Does o Outside) → IsGiven command
 from_option true o command h is = cc
 from_option false None command h is = cc
 from_option false (Some c) command h is = let same : c ≡ command = cc in subst IsGiven same h

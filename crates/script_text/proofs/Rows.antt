@@ -1,9 +1,10 @@
-use Rattle.std.proofs.Common.{◌≡◌, ℕ, Bool, true, false, cond, List, [], ◌∷◌, ◌++◌, ap, sym, ◌∙◌, refl, nat_eq, Option, Some, None, Result, Ok, Err, IfOk}
-use Rattle.std.specs.Option.{option_or}
+use Rattle.std.proofs.Common.{◌≡◌, ℕ, Bool, true, false, cond, List, [], ◌∷◌, ◌++◌, length, ◌==◌, ap, sym, ◌∙◌, refl, nat_eq, Option, Some, None, Result, Ok, Err, IfOk}
+use Rattle.std.specs.Option.{option_and_then, option_or}
 use Rattle.std.specs.Cmp.Lexicographic.{same_text}
 use lib.Pointwise.{pointwise}
 use Rattle.script_text.specs.declared.command.Command.{Command}
-use Rattle.script_text.specs.Forms.{Form, machine_forms, debugger_forms, made_at, made_by, command_of}
+use Rattle.script_text.specs.Kinds.{Kind}
+use Rattle.script_text.specs.Forms.{Form, two_words, three_words, machine_forms, debugger_forms, made_at, made_by, command_of}
 
 -- The rows of the table of forms.
 
@@ -59,3 +60,24 @@ pub in_either : (first : List ℕ) (words : List (List ℕ))
     → option_or (made_by machine_forms first words) (made_by debugger_forms first words) ≡ command_of first words
 unfolding command_of
 in_either first words = made_by_both machine_forms debugger_forms first words
+
+-- words of another count than a form's make nothing by it
+behind_one : {A B : Type 0} (o : Option A) (make : A → Option B) → ((a : A) → make a ≡ None) → option_and_then make o ≡ None
+behind_one None make h = refl
+behind_one (Some a) make h = h a
+
+pub not_two : {A B : Type 0} (kind : Kind A) (other : Kind B) (make : A → B → Command) (ws : List (List ℕ)) → (length ws == 2) ≡ false
+    → two_words kind other make ws ≡ None
+not_two kind other make [] h = refl
+not_two kind other make (w ∷ []) h = behind_one (kind w) _ (λ a. refl)
+not_two kind other make (w ∷ x ∷ []) h = cc
+not_two kind other make (w ∷ x ∷ y ∷ ws) h = behind_one (kind w) _ (λ a. behind_one (other x) _ (λ b. refl))
+
+pub not_three : {A B C : Type 0} (kind : Kind A) (other : Kind B) (third : Kind C) (make : A → B → C → Command) (ws : List (List ℕ))
+    → (length ws == 3) ≡ false → three_words kind other third make ws ≡ None
+not_three kind other third make [] h = refl
+not_three kind other third make (w ∷ []) h = behind_one (kind w) _ (λ a. refl)
+not_three kind other third make (w ∷ x ∷ []) h = behind_one (kind w) _ (λ a. behind_one (other x) _ (λ b. refl))
+not_three kind other third make (w ∷ x ∷ y ∷ []) h = cc
+not_three kind other third make (w ∷ x ∷ y ∷ z ∷ ws) h =
+    behind_one (kind w) _ (λ a. behind_one (other x) _ (λ b. behind_one (third y) _ (λ c. refl)))

@@ -1,12 +1,13 @@
 use Rattle.std.specs.Prelude.{◌≡◌, ℕ, ◌≤◌, nat_eq, Bool, true, false, cond, refl, List, [], ◌∷◌, length, codes, Option, Some, None}
 use Rattle.std.proofs.Common.{ap, sym, subst, arith}
+use Rattle.std.specs.Option.{option_and_then}
 use Rattle.std.specs.List.{cons_option}
 use Rattle.std.specs.Cmp.Lexicographic.{same_text}
 use lib.Pointwise.{pointwise}
 use Rattle.script_text.specs.declared.command.Command.{Command}
-use Rattle.script_text.specs.declared.command.Command.TheVariants.{Promote}
+use Rattle.script_text.specs.declared.command.Command.TheVariants.{Promote, PromoteAll}
 use Rattle.script_text.specs.Kinds.{process_word, address_word, is_all, all_word}
-use Rattle.script_text.specs.Forms.{Form, forms, two_words, both, promote_all, made_by_each}
+use Rattle.script_text.specs.Forms.{Form, forms, no_words, one_word, two_words, made_by_each}
 
 -- A first word and the words behind it fit at most one row of the table: the rows of one first word differ in
 -- the kinds of the words behind it.
@@ -38,19 +39,24 @@ one_of (f ∷ fs) first words apart =
 no_address : (word : List ℕ) → is_all word ≡ true → address_word word ≡ None
 no_address word h = ap address_word (same_text word (codes "all") (sym h))
 
-either : (p address : Option ℕ) (t : Bool) (command : Command) → (t ≡ true → address ≡ None) → both p address Promote ≡ Some command
-    → both p (cond t (Some tt) None) promote_all ≡ None
-either None address t command none is = refl
-either (Some p) None t command none is = cc
-either (Some p) (Some a) true command none is = let same : Some a ≡ None = none refl in cc
-either (Some p) (Some a) false command none is = refl
+either : (p : ℕ) (words : List (List ℕ)) (address : Option ℕ) (t : Bool) (command : Command) → (t ≡ true → address ≡ None)
+    → option_and_then (λ a. no_words (Promote p a) words) address ≡ Some command
+    → option_and_then (λ (all : Unit {0}). no_words (PromoteAll p) words) (cond t (Some tt) None) ≡ None
+either p words None t command none is = cc
+either p words (Some a) true command none is = let same : Some a ≡ None = none refl in cc
+either p words (Some a) false command none is = refl
+
+behind_process : (o : Option ℕ) (words : List (List ℕ)) (command : Command)
+    → option_and_then (λ p. one_word address_word (Promote p) words) o ≡ Some command
+    → option_and_then (λ p. one_word all_word (λ all. PromoteAll p) words) o ≡ None
+behind_process None words command is = refl
+behind_process (Some p) [] command is = refl
+behind_process (Some p) (x ∷ words) command is = either p words (address_word x) (is_all x) command (no_address x) is
 
 page_or_all : (words : List (List ℕ)) (command : Command) → two_words process_word address_word Promote words ≡ Some command
-    → two_words process_word all_word promote_all words ≡ None
+    → two_words process_word all_word (λ p all. PromoteAll p) words ≡ None
 page_or_all [] command is = refl
-page_or_all (w ∷ []) command is = refl
-page_or_all (w ∷ x ∷ []) command is = either (process_word w) (address_word x) (is_all x) command (no_address x) is
-page_or_all (w ∷ x ∷ y ∷ words) command is = refl
+page_or_all (w ∷ words) command is = behind_process (process_word w) words command is
 
 apart : FormsAreApart forms
 apart =

@@ -1,5 +1,5 @@
 use Rattle.std.specs.Prelude.{ℕ, nat_eq, List, [], ◌∷◌, ◌++◌, Option, Some, None, codes, if◌then◌else◌}
-use Rattle.std.specs.Option.{option_map, option_or}
+use Rattle.std.specs.Option.{option_and_then, option_or}
 use Rattle.std.specs.List.{filter_map}
 use lib.Pointwise.{pointwise}
 use Rattle.script_text.specs.declared.command.Command.{Command}
@@ -17,45 +17,27 @@ pub record Form : Type 0 where
 abbrev pub form : List ℕ → (List (List ℕ) → Option Command) → Form
 form first makes = record { first = first; makes = makes }
 
--- what no word, one word and two words of some kinds make
+-- what no word makes; and a word of a kind, with what the words behind it make by what it says
 abbrev pub no_words : Command → List (List ℕ) → Option Command
 no_words command [] = Some command
 no_words command (w ∷ ws) = None
 
-abbrev pub one_word : {A : Type 0} → Kind A → (A → Command) → List (List ℕ) → Option Command
-one_word kind make [] = None
-one_word kind make (w ∷ []) = option_map make (kind w)
-one_word kind make (w ∷ x ∷ ws) = None
-
-abbrev pub both : {A B : Type 0} → Option A → Option B → (A → B → Command) → Option Command
-both None b make = None
-both (Some a) b make = option_map (make a) b
-
-abbrev pub two_words : {A B : Type 0} → Kind A → Kind B → (A → B → Command) → List (List ℕ) → Option Command
-two_words kind other make [] = None
-two_words kind other make (w ∷ []) = None
-two_words kind other make (w ∷ x ∷ []) = both (kind w) (other x) make
-two_words kind other make (w ∷ x ∷ y ∷ ws) = None
-
--- a word of a kind, and what the words behind it make with what it says
-abbrev pub with_said : {A : Type 0} → Option A → (A → Option Command) → Option Command
-with_said None make = None
-with_said (Some a) make = make a
-
 abbrev pub word_then : {A : Type 0} → Kind A → (A → List (List ℕ) → Option Command) → List (List ℕ) → Option Command
 word_then kind make [] = None
-word_then kind make (w ∷ ws) = with_said (kind w) (λ a. make a ws)
+word_then kind make (w ∷ ws) = option_and_then (λ a. make a ws) (kind w)
 
--- what three words and four words make
+-- what one word makes, two words, three and four
+abbrev pub one_word : {A : Type 0} → Kind A → (A → Command) → List (List ℕ) → Option Command
+one_word kind make = word_then kind (λ a. no_words (make a))
+
+abbrev pub two_words : {A B : Type 0} → Kind A → Kind B → (A → B → Command) → List (List ℕ) → Option Command
+two_words kind other make = word_then kind (λ a. one_word other (make a))
+
 abbrev pub three_words : {A B C : Type 0} → Kind A → Kind B → Kind C → (A → B → C → Command) → List (List ℕ) → Option Command
 three_words kind other third make = word_then kind (λ a. two_words other third (make a))
 
 abbrev pub four_words : {A B C D : Type 0} → Kind A → Kind B → Kind C → Kind D → (A → B → C → D → Command) → List (List ℕ) → Option Command
 four_words kind other third fourth make = word_then kind (λ a. three_words other third fourth (make a))
-
--- the command of `promote P all`
-abbrev pub promote_all : ℕ → Unit {0} → Command
-promote_all p all = PromoteAll p
 
 -- The table: a row a form, with its first word, the kinds of the words behind it, and the command. First those that
 -- run the machine and change what it is made of
@@ -73,7 +55,7 @@ machine_forms =
     ∷ form (codes "commit") (one_word process_word Commit)
     ∷ form (codes "discard") (one_word process_word Discard)
     ∷ form (codes "promote") (two_words process_word address_word Promote)
-    ∷ form (codes "promote") (two_words process_word all_word promote_all)
+    ∷ form (codes "promote") (two_words process_word all_word (λ p all. PromoteAll p))
     ∷ form (codes "compact") (no_words command.Compact)
     ∷ form (codes "map") (four_words process_word address_word pages_word perms_word command.Map)
     ∷ form (codes "unmap") (three_words process_word address_word pages_word command.Unmap)

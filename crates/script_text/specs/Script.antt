@@ -1,4 +1,5 @@
 use Rattle.std.specs.Prelude.{◌≡◌, ℕ, ◌+◌, ◌==◌, Bool, false, true, List, [], ◌∷◌, ◌++◌, length, map, Option, Some, None, Result, Ok, Err, if◌then◌else◌}
+use Rattle.std.specs.Option.{option_map_or}
 use Rattle.std.specs.List.{filter_map, list_any}
 use Rattle.script_text.specs.declared.command.Command.{Command}
 use Rattle.script_text.specs.declared.command.Meaning.{Meaning}
@@ -16,15 +17,11 @@ abbrev pub is_comment : List ℕ → Bool
 is_comment [] = false
 is_comment (b ∷ bs) = b == 35
 
-abbrev pub as_command : Option Command → Meaning
-as_command None = Outside
-as_command (Some command) = Does command
-
 -- what some words are: no command where there is none or where the first starts a comment, else a command
 -- where they are those of a form, else outside
 unfoldable pub meaning_of_words : List (List ℕ) → Meaning
 meaning_of_words [] = Nothing
-meaning_of_words (first ∷ words) = if is_comment first then Nothing else as_command (command_of first words)
+meaning_of_words (first ∷ words) = if is_comment first then Nothing else option_map_or Does (command_of first words) Outside
 
 -- what a line is
 unfoldable pub meaning_of : List ℕ → Meaning

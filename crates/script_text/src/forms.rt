@@ -2,7 +2,7 @@ ghost use Rattle.std.specs.Prelude.{◌≡◌, ℕ, List, IfOk};
 ghost use Rattle.std.specs.Option.{option_map, option_or};
 ghost use Rattle.script_text.specs.Words.{words_of};
 ghost use Rattle.script_text.specs.Kinds.{file_word, checkpoint_word, turns_word, process_word, address_word, pages_word, perms_word, register_word, dumped_word, words_word, hex_word, all_word};
-ghost use Rattle.script_text.specs.Forms.{no_words, one_word, two_words, three_words, four_words, promote_all, machine_forms, debugger_forms, made_by, command_of};
+ghost use Rattle.script_text.specs.Forms.{no_words, one_word, two_words, three_words, four_words, machine_forms, debugger_forms, made_by, command_of};
 ghost use Rattle.script_text.specs.Script.{is_comment, meaning_of};
 ghost use Rattle.script_text.specs.declared.command.Command.{Command};
 ghost use Rattle.script_text.specs.declared.command.Command.TheVariants.{Exec, Load, Fork, Run, Step, Checkpoint, Restore, Forget, Speculate, Commit, Discard, Promote, PromoteAll, Drop};
@@ -27,6 +27,7 @@ fn one_process(words: &[u8]) -> Option<u16>
 }
 
 /// The process number and the address that are the two words of a text.
+#[tactic(auto, using(crate::proofs::Rows::not_two))]
 fn process_and_address(words: &[u8]) -> Option<(u16, u64)>
     ensures { (make : ℕ → ℕ → Command) →
         option_map (λ both. make both.0 both.1) result
@@ -106,6 +107,7 @@ fn run(words: &[u8]) -> Option<Command>
 }
 
 /// `step P N`
+#[tactic(auto, using(crate::proofs::Rows::not_two))]
 fn step(words: &[u8]) -> Option<Command>
     ensures { result ≡ two_words process_word turns_word Step (words_of words.now) }
 {
@@ -181,7 +183,7 @@ fn promote_page(words: &[u8]) -> Option<Command>
 
 /// `promote P all`
 fn promote_all(words: &[u8]) -> Option<Command>
-    ensures { result ≡ two_words process_word all_word promote_all (words_of words.now) }
+    ensures { result ≡ two_words process_word all_word (λ p all. PromoteAll p) (words_of words.now) }
 {
     let (p, all) = two_words(words)?;
     let p = process_word(p)?;
@@ -195,7 +197,7 @@ fn promote_all(words: &[u8]) -> Option<Command>
 /// `promote P ADDR` or `promote P all`
 fn promote(words: &[u8]) -> Option<Command>
     ensures { result ≡ option_or (two_words process_word address_word Promote (words_of words.now))
-        (two_words process_word all_word promote_all (words_of words.now)) }
+        (two_words process_word all_word (λ p all. PromoteAll p) (words_of words.now)) }
 {
     match promote_page(words) {
         Some(command) => Some(command),
@@ -215,6 +217,7 @@ fn compact(words: &[u8]) -> Option<Command>
 }
 
 /// `ADDR K PERM`, behind `map P`
+#[tactic(auto, using(crate::proofs::Rows::not_three))]
 fn map_of(p: u16, words: &[u8]) -> Option<Command>
     ensures { result ≡ three_words address_word pages_word perms_word (command.Map p) (words_of words.now) }
 {
@@ -234,6 +237,7 @@ fn map(words: &[u8]) -> Option<Command>
 }
 
 /// `unmap P ADDR K`
+#[tactic(auto, using(crate::proofs::Rows::not_three))]
 fn unmap(words: &[u8]) -> Option<Command>
     ensures { result ≡ three_words process_word address_word pages_word command.Unmap (words_of words.now) }
 {
@@ -258,6 +262,7 @@ fn regs(words: &[u8]) -> Option<Command>
 }
 
 /// `dump P ADDR LEN`
+#[tactic(auto, using(crate::proofs::Rows::not_three))]
 fn dump(words: &[u8]) -> Option<Command>
     ensures { result ≡ three_words process_word address_word dumped_word command.Dump (words_of words.now) }
 {
@@ -268,6 +273,7 @@ fn dump(words: &[u8]) -> Option<Command>
 }
 
 /// `poke P ADDR HEX`
+#[tactic(auto, using(crate::proofs::Rows::not_three))]
 fn poke(alloc: Global, words: &[u8]) -> Result<Option<Command>, AllocError>
     ensures { IfOk result (λ made. made
         ≡ three_words process_word address_word hex_word command.Poke (words_of words.now)) }
@@ -291,6 +297,7 @@ fn poke(alloc: Global, words: &[u8]) -> Result<Option<Command>, AllocError>
 }
 
 /// `set P REG VALUE`
+#[tactic(auto, using(crate::proofs::Rows::not_three))]
 fn set(words: &[u8]) -> Option<Command>
     ensures { result ≡ three_words process_word register_word address_word command.Set (words_of words.now) }
 {
@@ -317,6 +324,7 @@ fn unbreak(words: &[u8]) -> Option<Command>
 }
 
 /// `disasm P ADDR W`
+#[tactic(auto, using(crate::proofs::Rows::not_three))]
 fn disasm(words: &[u8]) -> Option<Command>
     ensures { result ≡ three_words process_word address_word words_word command.Disasm (words_of words.now) }
 {

@@ -1,11 +1,11 @@
-pub use Rattle.ledger.specs.AloneLaws.{are, arent, not_true, origin_with, without_absent}
+pub use Rattle.ledger.specs.AloneLaws.{AreOriginsApart, are, arent, not_true, origin_with, without_absent}
 pub use Rattle.ledger.specs.Changes.{with_lines}
 unfoldable pub use Rattle.ledger.specs.Changes.{has_own}
 pub use Rattle.ledger.specs.ClassLaws.{class_most, class_none}
 pub use Rattle.ledger.specs.Events.{Store, ledger_after}
 pub use Rattle.ledger.specs.Ledger.{Holding, Ledger, all_holdings, has_origin, holding_at, is_alone, is_unused, with_page, without_page}
 pub use Rattle.ledger.specs.PlaceLaws.{by_place}
-pub use Rattle.ledger.specs.StoreLaws.{class_rises, store_joins, store_nothing, two_rises, units_joined}
+pub use Rattle.ledger.specs.StoreLaws.{class_rises, store_nothing, two_rises, units_store}
 pub use Rattle.ledger.specs.TallyLaws.{alone_by_count, empty_holdings, had_by_count, lines_tally, no_holdings, same_lines, same_sharers, same_units, sharers_at, sharers_few, sharers_put, tally_changed, tally_le, tally_none, tally_put, units_few}
 pub use Rattle.ledger.specs.UnitLaws.{alone_is, lines_at, lines_put, units_at, units_own, units_put}
 unfoldable pub use Rattle.ledger.specs.UnitLaws.{frame_for}

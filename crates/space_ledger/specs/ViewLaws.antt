@@ -4,7 +4,7 @@ use Rattle.std.specs.Option.{option_map}
 use Rattle.page_table.specs.declared.entry.PageEntry.{PageEntry}
 use Rattle.space_maps.specs.Options.{map_from}
 use Rattle.space_maps.specs.Spaces.{page_in}
-use Rattle.ledger.specs.AloneLaws.{arent}
+use Rattle.ledger.specs.AloneLaws.{are, arent}
 use Rattle.ledger.specs.Ledger.{Ledger, has_origin, is_unused}
 use Rattle.space_ledger.specs.View.{LedgerView, PageView, frame_at, ledger_of, origin_of}
 use Rattle.space_ledger.specs.Calls.{given_up}
@@ -23,6 +23,18 @@ unused_is l z f = at (nat_eq f z)
     at : (b : Bool) → (not (nat_eq (cond b 0 (f + 1)) 0) && not (has_origin l (cond b 0 (f + 1)))) ≡ not (b || has_origin l (f + 1))
     at true = refl
     at false = ap (λ (c : Bool). not c && not (has_origin l (f + 1))) (arent (f + 1) 0 (λ e. omega (arith, e)))
+
+-- pages of one origin that isn't 0 are on one frame, which isn't the zero frame
+pub frames_of : (z f g : ℕ) → origin_of z f ≡ origin_of z g → nat_eq (origin_of z f) 0 ≡ false → (f ≡ g) × (f ≡ z → ⊥)
+frames_of z f g = by_zero (nat_eq f z) refl (nat_eq g z) refl
+  where
+    by_zero : (b : Bool) → nat_eq f z ≡ b → (c : Bool) → nat_eq g z ≡ c → origin_of z f ≡ origin_of z g → nat_eq (origin_of z f) 0 ≡ false → (f ≡ g) × (f ≡ z → ⊥)
+    by_zero true e c k same some = let no = sym (ap (λ d. nat_eq (cond d 0 (f + 1)) 0) e) ∙ some in cc
+    by_zero false e true k same some =
+        let no : f + 1 ≡ 0 = sym (ap (λ d. cond d 0 (f + 1)) e) ∙ same ∙ ap (λ d. cond d 0 (g + 1)) k in absurd (omega (arith, no))
+    by_zero false e false k same some =
+        let is : f + 1 ≡ g + 1 = sym (ap (λ d. cond d 0 (f + 1)) e) ∙ same ∙ ap (λ d. cond d 0 (g + 1)) k in
+        (omega (arith, is), λ zero. let no = sym (are f z zero) ∙ e in cc)
 
 -- what is given up of a page is its frame, where that is unused
 pub given_as : (v : LedgerView) (x : PageView) → given_up v (Some x) ≡ cond (is_unused (ledger_of v) (origin_of v.zero_frame x.entry.frame)) (Some x.entry.frame) None

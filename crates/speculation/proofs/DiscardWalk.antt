@@ -17,11 +17,11 @@ use Rattle.overlay_pages.specs.Lines.{bytes_in_lines}
 use Rattle.promotion.specs.Settled.{mark_of}
 use Rattle.promotion.specs.Fates.{IsFate}
 use Rattle.overlay_memory.specs.Joined.{IsBare}
-use Rattle.overlay_memory.specs.PageLaws.{held_there, own_absent, own_is, own_there}
+use Rattle.overlay_memory.specs.PageLaws.{held_there, own_absent, own_is}
 use Rattle.promotion.specs.FateFolds.{discard_turns, none_own, same_altered, widened}
 use Rattle.overlay_memory.specs.StateMemory.{memory_at}
-use Rattle.promotion.specs.Altered.{HaveAltered, IsAlteration, WasThere, base_at, none_yet, one_more, own_now, said_again, still, was_there}
-use Rattle.promotion.specs.Walks.{at_first, come_past, come_to, next_done, not_yet, so_far}
+use Rattle.promotion.specs.Altered.{HaveAltered, IsAlteration, base_at, none_yet, one_more, own_now, said_again}
+use Rattle.promotion.specs.Walks.{ComesTo, at_first, come_past, comes_to, next_done, so_far}
 use Rattle.speculation.specs.Speculated.{HasDiscarded, with_discarded}
 
 -- Overlays are given up, one after the other.
@@ -48,33 +48,24 @@ module _ (old now new : State) (space from page : ℕ) (h : IsDiscarding old now
   abbrev test : ℕ → Bool
   test = to_discard old space
 
-  reached : HaveAltered base_page (so_far test page) any_origin old now space
-  reached = come_to base_page test any_origin old now space from h.altered (λ q bare. bare) page next
-
-  was : WasThere old space page
-  was = was_there base_page _ _ old now space page reached (own_there now space page next.1)
+  it : ComesTo base_page test any_origin old now space page
+  it = comes_to base_page test any_origin old now space from h.altered (λ q bare. bare) page next
 
   pub discarding_more : IsDiscarding old new space (page + 1)
   unfolding with_discarded
   discarding_more = record { altered = moved; low = omega arith }
     where
-      unaltered : so_far test page page ≡ false
-      unaltered = not_yet test page page (omega arith)
-
-      at : page_in now space page ≡ Some was.x
-      at = still base_page (so_far test page) any_origin old now space page was.x reached was.had unaltered
-
       passes : test page ≡ true
-      passes = sym (own_now old now space page was.x was.had at) ∙ next.1
+      passes = sym (own_now old now space page it.x it.had it.at) ∙ next.1
 
-      put : new ≡ put_page now space page (discarded was.x)
-      put = is ∙ ap (λ b. cond b (altered_page discarded now space page) now) next.1 ∙ changed_there discarded now space page was.x at
+      put : new ≡ put_page now space page (discarded it.x)
+      put = is ∙ ap (λ b. cond b (altered_page discarded now space page) now) next.1 ∙ changed_there discarded now space page it.x it.at
 
       moved : HaveAltered base_page (so_far test (page + 1)) any_origin old new space
       moved =
           subst (λ (v : State). HaveAltered base_page (so_far test (page + 1)) any_origin old v space) (sym put)
-          (said_again base_page _ _ any_origin old (put_page now space page (discarded was.x)) space
-          (one_more base_page (so_far test page) any_origin old now space page was.x (discarded was.x) reached was.had unaltered refl refl refl (λ _. refl) (λ no. cc))
+          (said_again base_page _ _ any_origin old (put_page now space page (discarded it.x)) space
+          (one_more base_page (so_far test page) any_origin old now space page it.x (discarded it.x) it.reached it.had it.unaltered refl refl refl (λ _. refl) (λ no. cc))
           (λ r x had. next_done test page r passes))
 
 module _ (old now : State) (space from : ℕ) (plain : IsBare old space) (h : IsDiscarding old now space from) (none : IsNextOwn (books now) space from None) where

@@ -4,13 +4,15 @@ use Rattle.std.specs.FinMap.{get}
 use Rattle.number_maps.specs.Keys.{alike}
 use Rattle.ovl_io.specs.Memory.{Memory}
 use Rattle.ledger.specs.Alike.{AreAlike}
-use Rattle.ledger.specs.Changes.{has_own}
-use Rattle.ledger.specs.Events.{Settle, ledger_after}
+use Rattle.ledger.specs.Changes.{has_own, is_large}
+use Rattle.ledger.specs.Events.{Commit, Settle, ledger_after}
+use Rattle.ledger.specs.LargeLaws.{NoneLarge, none_large_commit}
+use Rattle.ledger.specs.RowLaws.{is_large_too}
 use Rattle.ledger.specs.Ledger.{Ledger}
 use Rattle.overlay_pages.specs.State.{State, books}
 use Rattle.space_maps.specs.Spaces.{holds_space, put_mark}
-use Rattle.promotion.specs.Settled as settled
-use Rattle.promotion.specs.Settled.{HasSettled, alone_in, every_page, mark_of}
+use Rattle.promotion.specs.FateFolds.{bare_small}
+use Rattle.promotion.specs.Settled.{HasCommittedPages, HasSettled, alone_or_large_in, every_page, mark_of}
 use Rattle.promotion.specs.Altered.{marked_so, settled_marked}
 use Rattle.speculation.specs.Speculated.{HasCommitted, HasDiscarded, HasStarted}
 
@@ -25,12 +27,25 @@ started old mid new space h there is =
       ledger = subst (λ (l : Ledger). AreAlike l (ledger_after (Settle space) (books old))) (sym m.ledger) h.ledger;
     }
 
-pub committed : (old mid new : State) (space : ℕ) → settled.HasCommittedAlone old mid space → holds_space old space ≡ true → new ≡ put_mark mid space false → HasCommitted old new space
+-- after a commit no page has 32 own lines or more
+pub none_left : (old mid : State) (space : ℕ) → HasCommittedPages old mid space → NoneLarge (books mid) space
+none_left old mid space h r = is_large_too (books mid) (ledger_after (Commit space) (books old)) h.ledger space r ∙ none_large_commit (books old) space r
+
+pub committed : (old mid new : State) (space : ℕ) → HasCommittedPages old mid space → holds_space old space ≡ true → new ≡ put_mark mid space false → HasCommitted old new space
 committed old mid new space h there is =
     let m = marked_so mid new space false (h.settled.spaces space ∙ there) is in record {
-      settled = settled_marked (alone_in old space) (mark_of old space) false old mid new space h.settled m;
-      ledger = m.ledger ∙ h.ledger;
+      settled = settled_marked (alone_or_large_in old space) (mark_of old space) false old mid new space h.settled m;
+      ledger = subst (λ (l : Ledger). AreAlike l (ledger_after (Commit space) (books old))) (sym m.ledger) h.ledger;
     }
+
+pub none_left_marked : (old mid new : State) (space : ℕ) → HasCommittedPages old mid space → holds_space old space ≡ true → new ≡ put_mark mid space false
+    → NoneLarge (books new) space
+none_left_marked old mid new space h there is r =
+    ap (λ (l : Ledger). is_large l space r) (marked_so mid new space false (h.settled.spaces space ∙ there) is).ledger ∙ none_left old mid space h r
+
+-- nor after each overlay was given up
+pub none_kept : (mark : Bool) (old mid : State) (space : ℕ) → HasDiscarded mark old mid space → NoneLarge (books mid) space
+none_kept mark old mid space h r = bare_small (books mid) space r (h.own r)
 
 pub discarded : (mark : Bool) (old mid new : State) (space : ℕ) → HasDiscarded mark old mid space → holds_space old space ≡ true → new ≡ put_mark mid space false
     → HasDiscarded false old new space

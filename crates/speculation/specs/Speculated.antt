@@ -6,7 +6,7 @@ use Rattle.overlay_pages.specs.State.{State, base_of, books, memory_of}
 use Rattle.overlay_memory.specs.View.{TranslatedView, state_of}
 use Rattle.overlay_memory.specs.Room.{FitsAfter, IsFullAt, event_units}
 use Rattle.space_maps.specs.Spaces.{holds_space, space_in, altered_page}
-use Rattle.promotion.specs.Settled.{AreInFrames, IsAfter, alone_in, every_page, mark_of}
+use Rattle.promotion.specs.Settled.{AreInFrames, IsAfter, alone_or_large_in, every_page, mark_of}
 use Rattle.speculation.specs.declared.error.SpeculationError.{SpeculationError}
 use Rattle.speculation.specs.declared.error.SpeculationError.TheVariants.{Speculating, NotSpeculating, Full}
 
@@ -23,10 +23,11 @@ pub record HasStarted (old new : State) (space : ℕ) : Type 0 where
   pub base : base_of new space ≡ memory_of new space
   pub ledger : IsAfter (Settle space) old new
 
--- Each page that is alone was settled, the others have their overlays, and the space has no mark.
+-- Each page that is alone was settled, and each that has 32 own lines or more; the others have their overlays, and the space has no
+-- mark.
 pub record HasCommitted (old new : State) (space : ℕ) : Type 0 where
-  pub settled : AreInFrames (alone_in old space) false old new space
-  pub ledger : books new ≡ ledger_after (Commit space) (books old)
+  pub settled : AreInFrames (alone_or_large_in old space) false old new space
+  pub ledger : IsAfter (Commit space) old new
 
 -- The base of before is what processes see, no page has own lines, and the space is marked as said. Nothing else changed.
 pub record HasDiscarded (mark : Bool) (old new : State) (space : ℕ) : Type 0 where

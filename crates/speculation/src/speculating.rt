@@ -1,6 +1,8 @@
 //! Start, commit and discard.
 
 ghost use Rattle.std.specs.Prelude.{◌≡◌, OnOk, true};
+ghost use Rattle.ledger.specs.LargeLaws.{NoneLarge};
+ghost use Rattle.overlay_pages.specs.State.{books};
 ghost use Rattle.overlay_memory.specs.View.{NoneAwaits, state_of, translations_of};
 ghost use Rattle.space_maps.specs.Spaces.{holds_space};
 ghost use Rattle.translation_cache.specs.Translations.{flushed};
@@ -9,7 +11,7 @@ ghost use Rattle.speculation.specs.Speculated.{Commits, Discards, Starts};
 use crate::discarding::discard_all;
 use crate::error::SpeculationError;
 use overlay_memory::OverlayMemory;
-use promotion::{commit_alone, settle};
+use promotion::{commit_pages, settle};
 
 /// Settles each page of a space, of which no page awaits, and marks the space as speculating: from then on its stores change no
 /// base. Speculating exactly where it is marked, else Full exactly where the units after it would exceed the limit; NotSpeculating
@@ -34,20 +36,23 @@ pub fn start(mem: &mut OverlayMemory, space: u16) -> Result<(), SpeculationError
     }
 }
 
-/// The own lines of each page that is alone go into its frame, the other pages keep their overlays as ordinary ones, and the mark
-/// is taken away. NotSpeculating exactly where the space isn't marked; then everything is as before. Else the space has no
-/// translations any more. Never full. Takes no memory. Costs a few look-ups for each page with own lines, and a copy of each own
-/// line of those that are alone.
+/// The own lines of each page that is alone go into its frame, each other page with 32 own lines or more gets a new frame with its
+/// lines, the others keep their overlays as ordinary ones, and the mark is taken away. No page of the space awaits. NotSpeculating
+/// exactly where the space isn't marked; then everything is as before. Else the space has no translations any more, and each of its
+/// pages at most 31 own lines. Never full. Takes no memory. Costs a few look-ups for each page with own lines, a copy of each own line
+/// of those that are alone, and a page for each new frame.
 pub fn commit(mem: &mut OverlayMemory, space: u16) -> Result<(), SpeculationError>
     requires there { holds_space (state_of mem.old) space ≡ true }
+    requires none_awaits { NoneAwaits (state_of mem.old) space }
     ensures commits { Commits mem.old mem.new space result }
+    ensures small { NoneLarge (books (state_of mem.new)) space }
     ensures translations { OnOk result
         (translations_of mem.new ≡ flushed space (translations_of mem.old)) }
 {
     if !mem.is_speculating(space) {
         return Err(SpeculationError::NotSpeculating);
     }
-    commit_alone(mem, space);
+    commit_pages(mem, space);
     mem.set_speculating(space, false);
     Ok(())
 }

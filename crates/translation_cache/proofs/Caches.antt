@@ -1,9 +1,9 @@
-use Rattle.std.proofs.Common.{◌≡◌, ℕ, ◌+◌, ◌-◌, ◌%◌, ◌^◌, ◌<◌, Bool, cond, min, List, [], ◌∷◌, length, map, filter, set, get_or, Option, Some, None, sym, ap, subst, ◌∙◌, arith}
+use Rattle.std.proofs.Common.{◌≡◌, ℕ, ◌+◌, ◌-◌, ◌%◌, ◌^◌, ◌<◌, Bool, cond, min, List, [], ◌∷◌, length, map, filter, set, get_or, Option, Some, None, sym, ap, subst, ◌∙◌, arith, take}
 use Rattle.std.specs.List.Retain.{RetainsInTurn}
 use Rattle.std.proofs.Math.ListN.{replicate}
 use Rattle.std.proofs.lemmas.List.{get_or-replicate, get_or_default, length-replicate, same_lists, set-get_or}
-use Rattle.translation_cache.specs.Translations.{Entry, Translations, changed, entered, entry_of, flushed, found, found_in, looked, looked_by, no_translations, put_first, raised, raised_by, set_of, updated, with_hits, with_misses, with_set, without_space}
-use Rattle.translation_cache.specs.declared.TheConstants.{SETS}
+use Rattle.translation_cache.specs.Translations.{Entry, Translations, changed, entered, entry_of, flushed, found, found_in, looked, looked_by, no_translations, raised, raised_by, set_of, updated, with_hits, with_misses, with_set, without_space}
+use Rattle.translation_cache.specs.declared.TheConstants.{SETS, SET_ENTRIES}
 
 -- What a change of one list is to all of them.
 
@@ -35,10 +35,10 @@ module _ {A : Type 0} where
       written_is t page at es is ∙ ap (λ xs. with_set page xs t) (new ∙ ap (changed f space page) (read_is t page at d is within))
 
   pub entered_is : (t : Translations A) (space page at : ℕ) (held : A) (es d : List (Entry A)) → at ≡ page % SETS → at < length t.sets
-      → es ≡ put_first (entry_of space page held) (get_or t.sets at d) → translations_of (set t.sets at es) t.hits t.misses ≡ entered space page held t
+      → es ≡ take SET_ENTRIES (entry_of space page held ∷ get_or t.sets at d) → translations_of (set t.sets at es) t.hits t.misses ≡ entered space page held t
   unfolding entered
   entered_is t space page at held es d is within new =
-      written_is t page at es is ∙ ap (λ xs. with_set page xs t) (new ∙ ap (put_first (entry_of space page held)) (read_is t page at d is within))
+      written_is t page at es is ∙ ap (λ xs. with_set page xs t) (new ∙ ap (λ xs. take SET_ENTRIES (entry_of space page held ∷ xs)) (read_is t page at d is within))
 
   pub found_is : (t : Translations A) (space page at : ℕ) (o : Option A) (d : List (Entry A)) → at ≡ page % SETS → at < length t.sets
       → o ≡ found_in space page (get_or t.sets at d) → o ≡ found space page t

@@ -3,7 +3,7 @@ use Rattle.std.specs.Option.{option_map}
 use Rattle.std.proofs.Math.ListN as math
 use Rattle.std.proofs.lemmas.List.{length-map, map-set, set-get_or}
 use Rattle.translation_cache.specs.Formed.{AreDistinct, AreOfSet, IsFormed, IsSet}
-use Rattle.translation_cache.specs.Translations.{Entry, Translations, changed, entered, entry_of, flushed, found, found_in, is_of, looked, looked_by, no_translations, put_first, set_of, updated, with_hits, with_misses, with_set, without, without_space}
+use Rattle.translation_cache.specs.Translations.{Entry, Translations, changed, entered, entry_of, flushed, found, found_in, is_of, looked, looked_by, no_translations, set_of, updated, with_hits, with_misses, with_set, without, without_space}
 use Rattle.translation_cache.specs.declared.TheConstants.{SETS, SET_ENTRIES}
 
 -- The lists without what their entries hold: pairs of space and page, and the counts. Every change goes through that.
@@ -101,7 +101,7 @@ module _ {A : Type 0} where
   pub bare_entered : (space page : ℕ) (held : A) (t : Translations A) → bare (entered space page held t) ≡ entered space page tt (bare t)
   unfolding entered
   bare_entered space page held t =
-      bare_with page (put_first (entry_of space page held) (set_of page t)) t
+      bare_with page (take SET_ENTRIES (entry_of space page held ∷ set_of page t)) t
       ∙ ap (λ es. with_set page es (bare t))
       (bare_take SET_ENTRIES (entry_of space page held ∷ set_of page t)
       ∙ ap (λ es. take SET_ENTRIES (entry_of space page tt ∷ es)) (sym (bare_set_of page t)))

@@ -10,7 +10,7 @@ use Rattle.translation_cache.specs.Counted.{access_translated, counted, pages_un
 use Rattle.translation_cache.specs.Formed.{IsFormed}
 use Rattle.translation_cache.specs.Finding.{found_first, found_looked}
 use Rattle.translation_cache.specs.Laws.{formed_entered, formed_hits, formed_looked, is_same}
-use Rattle.translation_cache.specs.Translations.{Entry, Translations, entered, entry_of, found, found_in, looked, looked_by, put_first, set_of, with_hits, with_misses, with_set, without}
+use Rattle.translation_cache.specs.Translations.{Entry, Translations, entered, entry_of, found, found_in, looked, looked_by, set_of, with_hits, with_misses, with_set, without}
 use Rattle.translation_cache.specs.declared.TheConstants.{SETS, SET_ENTRIES}
 
 -- Laws: accesses within one page and over two, and look-ups of a page at the front.
@@ -248,7 +248,7 @@ module _ {A : Type 0} where
   front_entered space page held t formed = record {
     held = held;
     rest = take (SET_ENTRIES - 1) (set_of page t);
-    first = set_with page (put_first (entry_of space page held) (set_of page t)) t formed;
+    first = set_with page (take SET_ENTRIES (entry_of space page held ∷ set_of page t)) t formed;
   }
 
   -- the list of another set stays
@@ -265,7 +265,7 @@ module _ {A : Type 0} where
 
   beside_entered : (space page q : ℕ) (held : A) (t : Translations A) → (page % SETS ≡ q % SETS → ⊥) → set_of page (entered space q held t) ≡ set_of page t
   unfolding entered
-  beside_entered space page q held t other = beside_with page q (put_first (entry_of space q held) (set_of q t)) t other
+  beside_entered space page q held t other = beside_with page q (take SET_ENTRIES (entry_of space q held ∷ set_of q t)) t other
 
 -- a page that was translated, and is in the memory, is at the front
 pub front_translated : (space page : ℕ) (memory : Memory) (t : BareTranslations) → IsFormed t → is_some (get memory page) ≡ true

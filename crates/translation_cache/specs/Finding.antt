@@ -4,7 +4,7 @@ use Rattle.std.proofs.Math.ListN as math
 use Rattle.std.proofs.lemmas.List.{get_or-set_other, get_or-set_same, get_or_default, length-map, same_lists}
 use Rattle.translation_cache.specs.Formed.{AreOfSet, IsFormed}
 use Rattle.translation_cache.specs.Laws.{is_same, none_at, not_first, not_rest, of_page, of_space}
-use Rattle.translation_cache.specs.Translations.{Entry, Translations, changed, entered, entry_of, flushed, found, found_in, is_of, looked, looked_by, no_translations, put_first, set_of, updated, with_hits, with_misses, with_set, without, without_space}
+use Rattle.translation_cache.specs.Translations.{Entry, Translations, changed, entered, entry_of, flushed, found, found_in, is_of, looked, looked_by, no_translations, set_of, updated, with_hits, with_misses, with_set, without, without_space}
 use Rattle.translation_cache.specs.declared.TheConstants.{SETS, SET_ENTRIES}
 
 -- Laws: what is found after each change.
@@ -183,7 +183,7 @@ module _ {A : Type 0} where
   unfolding entered
   found_entered space page s p held c t formed =
       found_put (λ o. o ≡ Some c → ((s ≡ space) × (p ≡ page) × (c ≡ held)) ⊎ (found s p t ≡ Some c)) s p page
-      (put_first (entry_of space page held) (set_of page t)) t formed
+      (take SET_ENTRIES (entry_of space page held ∷ set_of page t)) t formed
       (λ set is. by_front set (found_take s p SET_ENTRIES (entry_of space page held ∷ set_of page t) c is))
       (λ far is. inr is)
     where

@@ -3,7 +3,7 @@ use Rattle.std.proofs.Math.ListN as math
 use Rattle.std.proofs.lemmas.Bool.{and_parts}
 use Rattle.std.proofs.lemmas.List.{get_or-set_same, get_or-set_other, length-map, length-replicate, length-set}
 use Rattle.translation_cache.specs.Formed.{AreDistinct, AreOfSet, IsFormed, IsSet}
-use Rattle.translation_cache.specs.Translations.{Entry, Translations, changed, entered, entry_of, flushed, found, found_in, is_of, looked, looked_by, no_translations, put_first, set_of, updated, with_hits, with_misses, with_set, without, without_space}
+use Rattle.translation_cache.specs.Translations.{Entry, Translations, changed, entered, entry_of, flushed, found, found_in, is_of, looked, looked_by, no_translations, set_of, updated, with_hits, with_misses, with_set, without, without_space}
 use Rattle.translation_cache.specs.declared.TheConstants.{SETS, SET_ENTRIES}
 
 -- Laws: what is true of all lists stays true, and what is found after each change.
@@ -110,7 +110,7 @@ module _ {A : Type 0} where
   once_take (suc n) (e ∷ es) once = (none_take e.space e.page n es once.0, once_take n es once.1)
 
   pub set_put : (set space page : ℕ) (es : List (Entry A)) (held : A) → IsSet set es → page % SETS ≡ set → found_in space page es ≡ None
-      → IsSet set (put_first (entry_of space page held) es)
+      → IsSet set (take SET_ENTRIES (entry_of space page held ∷ es))
   set_put set space page es held is of absent = record {
     few = length_take SET_ENTRIES (entry_of space page held ∷ es);
     placed = placed_take set SET_ENTRIES (entry_of space page held ∷ es) (of, is.placed);
@@ -246,7 +246,7 @@ module _ {A : Type 0} where
   pub formed_entered : (space page : ℕ) (held : A) (t : Translations A) → IsFormed t → found space page t ≡ None → IsFormed (entered space page held t)
   unfolding entered found
   formed_entered space page held t formed absent =
-      formed_with page (put_first (entry_of space page held) (set_of page t)) t formed
+      formed_with page (take SET_ENTRIES (entry_of space page held ∷ set_of page t)) t formed
       (set_put (page % SETS) space page (set_of page t) held (formed.each (page % SETS)) refl absent)
 
   pub formed_updated : (f : A → A) (space page : ℕ) (t : Translations A) → IsFormed t → IsFormed (updated f space page t)

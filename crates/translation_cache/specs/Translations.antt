@@ -56,10 +56,6 @@ module _ {A : Type 0} where
   abbrev pub raised : ℕ → ℕ → List (Entry A) → List (Entry A)
   raised space page entries = raised_by space page entries (found_in space page entries)
 
-  -- an entry is put at the front, and a fifth one dropped
-  abbrev pub put_first : Entry A → List (Entry A) → List (Entry A)
-  put_first entry entries = take SET_ENTRIES (entry ∷ entries)
-
   -- the list without the entries of a space
   abbrev pub without_space : ℕ → List (Entry A) → List (Entry A)
   without_space space entries = filter (λ (entry : Entry A). not (nat_eq entry.space space)) entries
@@ -98,7 +94,7 @@ module _ {A : Type 0} where
 
   -- a page got an entry, at the front of its list, of which a fifth one is dropped
   unfoldable pub entered : ℕ → ℕ → A → Translations A → Translations A
-  entered space page held t = with_set page (put_first (entry_of space page held) (set_of page t)) t
+  entered space page held t = with_set page (take SET_ENTRIES (entry_of space page held ∷ set_of page t)) t
 
   -- what the entry of a page holds was changed, where it is there
   unfoldable pub updated : (A → A) → ℕ → ℕ → Translations A → Translations A
@@ -115,3 +111,7 @@ cached_with line c = record { perms = c.perms; frame = c.frame; bits = with_line
 -- the entry of a page has an own line more, where it is there
 abbrev pub with_bit : ℕ → ℕ → ℕ → Translations Cached → Translations Cached
 with_bit space page line t = updated (cached_with line) space page t
+
+-- the entry of a page holds something else, where it is there
+abbrev pub with_cached : ℕ → ℕ → Cached → Translations Cached → Translations Cached
+with_cached space page c t = updated (λ _. c) space page t

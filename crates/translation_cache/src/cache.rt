@@ -2,7 +2,7 @@
 ghost use Rattle.std.specs.Prelude.{◌≡◌, ℕ, ◌%◌, ◌<◌, None, map};
 ghost use Rattle.sizes.specs.declared.TheConstants.{PAGE_LINES};
 ghost use Rattle.translation_cache.specs.Formed.{IsFormed};
-ghost use Rattle.translation_cache.specs.Translations.{entered, flushed, found, looked, no_translations, with_bit, with_hits, without_space};
+ghost use Rattle.translation_cache.specs.Translations.{entered, flushed, found, looked, no_translations, with_bit, with_cached, with_hits, without_space};
 
 use crate::SETS;
 use crate::cached::Cached;
@@ -80,6 +80,16 @@ impl Cache {
     {
         let entries = &mut self.sets[set_of(page)];
         entries.set_bit(space, page, line);
+    }
+
+    /// Puts something in the place of what the entry of a page of a space holds, where it is there. The order, all other entries
+    /// and the counts stay.
+    pub fn replace(&mut self, space: u16, page: u64, cached: Cached)
+        ensures replaced { self.new ≡ with_cached space page cached self.old }
+        ensures formed { IsFormed self.old }
+    {
+        let entries = &mut self.sets[set_of(page)];
+        entries.replace(space, page, cached);
     }
 
     /// Removes the entries of a space, which changes nothing where it has none. Costs a step for each entry.

@@ -1,9 +1,9 @@
 //! One list.
 
-ghost use Rattle.std.specs.Prelude.{◌≡◌, ◌<◌, ◌≤◌, [], length};
+ghost use Rattle.std.specs.Prelude.{◌≡◌, ◌<◌, ◌≤◌, [], length, ◌∷◌, take};
 ghost use Rattle.sizes.specs.declared.TheConstants.{PAGE_LINES};
 ghost use Rattle.translation_cache.specs.Cuts.{FindsPlace};
-ghost use Rattle.translation_cache.specs.Translations.{cached_with, changed, entry_of, found_in, put_first, raised, without_space};
+ghost use Rattle.translation_cache.specs.Translations.{cached_with, changed, entry_of, found_in, raised, without_space};
 
 use crate::SET_ENTRIES;
 use crate::cached::Cached;
@@ -108,7 +108,7 @@ impl Entries {
 
     /// Puts an entry at the front, and drops a fifth one.
     pub(crate) fn put_first(&mut self, space: u16, page: u64, held: Cached)
-        ensures { self.new ≡ put_first (entry_of space page held) self.old }
+        ensures { self.new ≡ take SET_ENTRIES (entry_of space page held ∷ self.old) }
     {
         self.list.truncate(SET_ENTRIES - 1);
         self.list.insert(0, Entry { space, page, held });
@@ -123,6 +123,19 @@ impl Entries {
             Some(at) => {
                 let entry = &mut self.list.as_mut_slice()[at];
                 entry.held.bits = entry.held.bits.with(line);
+            }
+            None => {}
+        }
+    }
+
+    /// Puts something in the place of what the entry of a page holds, where it is there.
+    pub(crate) fn replace(&mut self, space: u16, page: u64, held: Cached)
+        ensures { self.new ≡ changed (λ _. held) space page self.old }
+    {
+        match self.place(space, page) {
+            Some(at) => {
+                let entry = &mut self.list.as_mut_slice()[at];
+                entry.held = held;
             }
             None => {}
         }

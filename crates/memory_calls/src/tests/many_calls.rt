@@ -120,6 +120,20 @@ fn bring_space(rt: &impl Abort, both: &mut Both, to: usize, from: usize) -> Resu
     Ok(())
 }
 
+// The large pages of a space are settled, as they are before its mark is taken away.
+fn settle_large(rt: &impl Abort, both: &mut Both, space: usize)
+    requires { space < SPACES }
+{
+    'settling: for i in 0..PAGES {
+        let at = PAGES * space + i;
+        if let Some(page) = both.plain.pages[at] {
+            if both.plain.is_large(&page) {
+                settle_page(rt, both, at, page);
+            }
+        }
+    }
+}
+
 // A space goes, or is marked or unmarked.
 fn turn_space(rt: &impl Abort, both: &mut Both, space: usize, seed: u32)
     requires { space < SPACES }
@@ -130,6 +144,9 @@ fn turn_space(rt: &impl Abort, both: &mut Both, space: usize, seed: u32)
         both.spaces.drop_space(rt, number);
     } else {
         let on = !both.spaces.memory.is_speculating(number);
+        if !on {
+            settle_large(rt, both, space);
+        }
         both.spaces.set_speculating(rt, number, on);
     }
 }

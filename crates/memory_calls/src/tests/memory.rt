@@ -145,33 +145,54 @@ fn what_takes_memory_is_done_where_there_is_memory(rt: HostRuntime) -> Result<()
     take_steps(&rt, &mut spaces, &AMPLE)
 }
 
-// Space 2 has an overlay of 16 units, and a page with a frame of its own. It fits into space 1 once space 3 has no segment any more.
-const RESTORED: [Step; 19] = [
+// Space 2 has an overlay of 8 units, and two pages with frames of their own. It fits into space 1 once space 3 has no segment any more.
+const RESTORED: [Step; 20] = [
     Step::Add(1),
     Step::Map(1, 16, 1),
     Step::Write(1, 0x1_0000, 1, 0x07),
     Step::Fork(1, 3),
     Step::Add(2),
     Step::Map(2, 16, 1),
-    Step::Write(2, 0x1_0000, PAGE_BYTES, 0x5A),
+    Step::Write(2, 0x1_0000, 31 * 64, 0x5A),
     Step::Place(2, 17, 0x09),
+    Step::Place(2, 18, 0x0B),
     Step::Restore(2, 1, Err(SpaceError::Full(65, 64))),
-    Step::Counts(50, 66),
+    Step::Counts(58, 33),
     Step::Two(0x1_0000, [0x07, 0x00]),
     Step::Add(4),
     Step::Restore(4, 3, Ok(())),
     Step::Restore(2, 1, Ok(())),
-    Step::Counts(64, 128),
+    Step::Counts(64, 62),
     Step::Two(0x1_0000, [0x5A, 0x5A]),
     Step::Two(0x1_1000, [0x09, 0x09]),
     Step::Restore(2, 1, Ok(())),
-    Step::Counts(64, 128),
+    Step::Counts(64, 62),
 ];
 
 #[test]
 fn a_space_gets_the_pages_of_another_one(rt: HostRuntime) -> Result<(), Fail> {
     let mut spaces = Spaces::new(&rt, rt.alloc(), 4)?;
     take_steps(&rt, &mut spaces, &RESTORED)
+}
+
+// A page of which 31 lines are stored, and one more; and two pages, of which one store brings 32 lines each.
+const LARGE: [Step; 10] = [
+    Step::Add(1),
+    Step::Map(1, 16, 4),
+    Step::Write(1, 0x1_0000, 31 * 64, 0x5A),
+    Step::Counts(24, 31),
+    Step::Write(1, 0x1_07FF, 1, 0x07),
+    Step::Counts(32, 0),
+    Step::Two(0x1_07BF, [0x5A, 0x00]),
+    Step::Write(1, 0x1_2800, PAGE_BYTES, 0x09),
+    Step::Counts(64, 0),
+    Step::Two(0x1_2FFF, [0x09, 0x09]),
+];
+
+#[test]
+fn a_page_of_32_own_lines_gets_a_frame(rt: HostRuntime) -> Result<(), Fail> {
+    let mut spaces = Spaces::new(&rt, rt.alloc(), 4)?;
+    take_steps(&rt, &mut spaces, &LARGE)
 }
 
 // How many own lines a page has: 1, 4, 8 or 16, so that its segment has 1, 2, 4 or 8 units.

@@ -162,6 +162,11 @@ impl Plain {
         own_lines(page) > 0
     }
 
+    /// Whether its own lines take as many units as a frame.
+    pub(super) fn is_large(&self, page: &PlainPage) -> bool {
+        own_lines(page) >= 32
+    }
+
     // A number that no frame had.
     fn new_frame(&mut self) -> u32 {
         self.frames = self.frames.saturating_add(1);
@@ -205,7 +210,8 @@ impl Plain {
         self.pages[at] = Some(whole(0, [0; LINES]));
     }
 
-    /// Lines of a page from one on get a byte at their front.
+    /// Lines of a page from one on get a byte at their front. Where 32 or more are its own then, and its space isn't speculating, it gets
+    /// a frame of its own.
     pub(super) fn write(
         &mut self,
         at: usize,
@@ -221,6 +227,9 @@ impl Plain {
         let mut written = page;
         let in_frame = !speculating && self.is_alone(&page);
         write_lines(&mut written, line, end, byte, in_frame);
+        if !speculating && !in_frame && self.is_large(&written) {
+            written = whole(self.new_frame(), written.seen);
+        }
         match self.set_page(at, written) {
             Ok(()) => Ok(()),
             Err(units) => Err(MemoryError::Full(units, self.limit)),

@@ -4,7 +4,9 @@ ghost use Rattle.std.specs.Prelude.{◌≡◌, ◌+◌, ◌<◌, ◌≤◌, IfSo
 ghost use Rattle.sizes.specs.declared.TheConstants.{PAGE_END, PAGE_LINES};
 ghost use Rattle.overlay_pages.specs.Changes.{AreAbsent, HasCopyRoom, is_writable};
 ghost use Rattle.overlay_memory.specs.View.{state_of};
-ghost use Rattle.space_maps.specs.Spaces.{page_in};
+ghost use Rattle.ledger.specs.LargeLaws.{NoneLarge};
+ghost use Rattle.overlay_pages.specs.State.{books};
+ghost use Rattle.space_maps.specs.Spaces.{holds_space, page_in};
 
 use bitflags::Flags;
 use fork_checkpoint::{fork_space, restore_space};
@@ -236,9 +238,25 @@ impl Spaces {
         self.memory.drop_space(space);
     }
 
-    // Sets the mark of a space that is there, or takes it away.
+    // Whether no page of a space that is there has 32 own lines or more.
+    fn is_small(&self, space: u16) -> bool
+        requires { holds_space (state_of self.now) space ≡ true }
+        ensures { IsTrue result → NoneLarge (books (state_of self.now)) space }
+    {
+        let mut from = 0;
+        'looking: while let Some(page) = self.memory.next_overlaid(space, from) {
+            if self.memory.lines_of(space, page).len() >= 32 {
+                return false;
+            }
+            from = page + 1;
+        }
+        true
+    }
+
+    // Sets the mark of a space that is there, or takes it away where no page has 32 own lines or more.
     pub(super) fn set_speculating(&mut self, rt: &impl Abort, space: u16, on: bool) {
         assert!(rt; self.memory.has_space(space));
+        assert!(rt; on || self.is_small(space));
         self.memory.set_speculating(space, on);
     }
 

@@ -32,6 +32,9 @@ fill_space-requires-clause-differ c = two_spaces (state_of c.args.mem.now) c.arg
 pub fill_space-requires-clause-there : goal.fill_space-requires-clause-there
 fill_space-requires-clause-there c = (added c).beside.there c.requires.there
 
+pub fill_space-requires-clause-unmarked : goal.fill_space-requires-clause-unmarked
+fill_space-requires-clause-unmarked c = (added c).beside.unmarked c.requires.unmarked
+
 pub fill_space-requires-clause-none_awaits : goal.fill_space-requires-clause-none_awaits
 fill_space-requires-clause-none_awaits c = (added c).beside.none_awaits c.requires.none_awaits
 

@@ -14,7 +14,7 @@ clear_space-requires-clause-none_awaits c = ap (λ (v : State). (space_in v c.ar
 pub share_table-requires : goal.share_table-requires
 share_table-requires c = record {
   ready = ready_cleared (state_of c.args.mem.now) (state_of c.copy_table.new.self) (state_of c.clear_space.new.self) c.args.from c.args.to c.in-Ok.table.pages c.requires.differ
-      c.requires.from_there c.requires.none_awaits c.requires.low c.requires.fits (ap state_of c.copy_table.ensures.same) c.clear_space.ensures.state c.in-Ok.ensures.table c.in-Ok.ensures.once;
+      c.requires.from_there c.requires.from_unmarked c.requires.none_awaits c.requires.low c.requires.fits (ap state_of c.copy_table.ensures.same) c.clear_space.ensures.state c.in-Ok.ensures.table c.in-Ok.ensures.once;
 }
 
 pub returns-in-Ok-clause-refills : goal.returns-in-Ok-clause-refills

@@ -34,6 +34,9 @@ share_bare-requires-clause-bare c =
 pub share_page-requires-clause-there : goal.share_page-requires-clause-there
 share_page-requires-clause-there c = (turn c).there
 
+pub share_page-requires-clause-settled : goal.share_page-requires-clause-settled
+share_page-requires-clause-settled c = (turn c).step.mark ∙ c.requires.unmarked
+
 pub share_page-requires-clause-space : goal.share_page-requires-clause-space
 share_page-requires-clause-space c = (turn c).step.space
 

@@ -9,6 +9,9 @@ adopted c = has_adopted (state_of c.args.mem.now) (state_of c.adopt_table.new.se
 pub share_all-requires-clause-there : goal.share_all-requires-clause-there
 share_all-requires-clause-there c = (adopted c).beside.there c.requires.ready.there
 
+pub share_all-requires-clause-unmarked : goal.share_all-requires-clause-unmarked
+share_all-requires-clause-unmarked c = (adopted c).beside.unmarked c.requires.ready.unmarked
+
 pub share_all-requires-clause-space : goal.share_all-requires-clause-space
 share_all-requires-clause-space c = (adopted c).beside.space
 

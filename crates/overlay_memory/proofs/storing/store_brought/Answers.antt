@@ -7,11 +7,11 @@ use Rattle.overlay_pages.specs.Spots.{IsBroughtTo, IsFoundPageAt}
 use Rattle.overlay_memory.specs.Fronts.{AreFronts}
 use Rattle.overlay_memory.specs.Pieces.{IsFilled}
 use Rattle.overlay_memory.proofs.Fronting.{brought_fronts, filled_fronts, line_there, none_known, of_line}
-use Rattle.overlay_memory.proofs.InOne.{brought_at, is_apart, line_fits, line_full, line_stored, line_writable}
+use Rattle.overlay_memory.proofs.InOne.{brought_at, filled_awaits, filled_there, is_apart, line_fits, line_full, line_stays, line_stored, line_writable}
 use Rattle.overlay_memory.proofs.InOne as one
 use Rattle.overlay_memory.proofs.Truths.{filled_true}
 use Rattle.overlay_memory.proofs.storing.store_brought.Goals as goal
-use Rattle.overlay_memory.proofs.storing.store_brought.Goals.{In-Some-bring_line, After-line}
+use Rattle.overlay_memory.proofs.storing.store_brought.Goals.{In-Some-bring_line, After-fill_line}
 use Rattle.translation_cache.specs.Bare.{bare}
 
 pub returns-in-Some-clause-stores : goal.returns-in-Some-clause-stores
@@ -64,12 +64,12 @@ returns-in-Some-bring_line-clause-stores c =
     let view = c.bring_line.new.pages in
     let page = (goal.at.returns-in-Some-bring_line-clause-stores c).In-Some-bring_line in
     let new = state_of c.put-in-Some-bring_line.new.pages in
-    line_stored
-    (is_apart c.requires.found c.line_of-line.ensures.line c.units_with.ensures.joined c.requires.may c.requires.apart c.requires.some c.requires.one_line)
-    (state_of view) c.bring_line.ensures.brought new
-    (found_at view c.args.space (c.args.address / 4096) (c.args.address / 64 % 64) c.line.result
+    let it = is_apart c.requires.found c.line_of-line.ensures.line c.units_with.ensures.joined c.requires.may c.requires.apart c.requires.some c.requires.one_line in
+    let filled = found_at view c.args.space (c.args.address / 4096) (c.args.address / 64 % 64) c.line.result
     (line_there view c.args.space c.args.address c.line_of-line.result c.in-Some-bring_line.found c.line.result (at page) c.line_of-line.ensures.line (c.line.ensures view (to page).is))
-    (λ s p l. IsFilled (state_of view) new s (4096 * p + (64 * l + c.args.address % 64)) c.args.bytes.now) c.put-in-Some-bring_line.ensures.filled)
+    (λ s p l. IsFilled (state_of view) new s (4096 * p + (64 * l + c.args.address % 64)) c.args.bytes.now) c.put-in-Some-bring_line.ensures.filled in
+    line_stored it (state_of view) c.bring_line.ensures.brought new filled new
+    (line_stays it c.requires.small view c.in-Some-bring_line.found (to page) c.bring_line.ensures.brought new filled)
 
 pub returns-in-Some-bring_line-clause-held : goal.returns-in-Some-bring_line-clause-held
 returns-in-Some-bring_line-clause-held c =
@@ -85,18 +85,36 @@ returns-in-Some-bring_line-clause-fronts c =
     (brought_fronts c.args.pages.now c.bring_line.new.pages (bare c.args.cache.now) c.args.fronts.now c.args.page c.in-Some-bring_line.found c.line_of-line.result
     (c.args.address / 4096) c.requires.fronts c.requires.front (to page) (at page).page_is)))
 
+-- what was filled, where the overlay grew
+filled : (c : After-fill_line) → IsFilled (state_of c.bring_line.new.pages) (state_of c.fill_line.new.pages) c.args.space
+    (4096 * (c.args.address / 4096) + (64 * (c.args.address / 64 % 64) + c.args.address % 64)) c.args.bytes.now
+filled c = subst (λ l. IsFilled (state_of c.bring_line.new.pages) (state_of c.fill_line.new.pages) c.args.space (4096 * (c.args.address / 4096) + (64 * l + c.args.address % 64)) c.args.bytes.now)
+    c.line_of-line.ensures.line c.fill_line.ensures
+
+pub settle_if_large-requires-clause-there : goal.settle_if_large-requires-clause-there
+settle_if_large-requires-clause-there c =
+    filled_there
+    (is_apart c.requires.found c.line_of-line.ensures.line c.units_with.ensures.joined c.requires.may c.requires.apart c.requires.some c.requires.one_line)
+    (state_of c.bring_line.new.pages) c.bring_line.ensures.brought (state_of c.fill_line.new.pages) (filled (goal.at.settle_if_large-requires-clause-there c).After-fill_line)
+
+pub settle_if_large-requires-clause-none_awaits : goal.settle_if_large-requires-clause-none_awaits
+settle_if_large-requires-clause-none_awaits c =
+    filled_awaits
+    (is_apart c.requires.found c.line_of-line.ensures.line c.units_with.ensures.joined c.requires.may c.requires.apart c.requires.some c.requires.one_line)
+    (state_of c.bring_line.new.pages) c.bring_line.ensures.brought (state_of c.fill_line.new.pages) (filled (goal.at.settle_if_large-requires-clause-none_awaits c).After-fill_line)
+    c.requires.none_awaits
+
+pub settle_if_large-requires-clause-held : goal.settle_if_large-requires-clause-held
+settle_if_large-requires-clause-held c =
+    filled_true (state_of c.bring_line.new.pages) (state_of c.fill_line.new.pages) c.args.space _ c.args.bytes.now c.bring_line.new.cache c.fill_line.ensures
+    c.bring_line.ensures.held
+
 pub returns-in-None-clause-stores : goal.returns-in-None-clause-stores
 returns-in-None-clause-stores c =
     line_stored
     (is_apart c.requires.found c.line_of-line.ensures.line c.units_with.ensures.joined c.requires.may c.requires.apart c.requires.some c.requires.one_line)
-    (state_of c.bring_line.new.pages) c.bring_line.ensures.brought (state_of c.fill_line.new.pages)
-    (subst (λ l. IsFilled (state_of c.bring_line.new.pages) (state_of c.fill_line.new.pages) c.args.space (4096 * (c.args.address / 4096) + (64 * l + c.args.address % 64)) c.args.bytes.now)
-    c.line_of-line.ensures.line c.fill_line.ensures)
-
-pub returns-in-None-clause-held : goal.returns-in-None-clause-held
-returns-in-None-clause-held c =
-    filled_true (state_of c.bring_line.new.pages) (state_of c.fill_line.new.pages) c.args.space _ c.args.bytes.now c.bring_line.new.cache c.fill_line.ensures
-    c.bring_line.ensures.held
+    (state_of c.bring_line.new.pages) c.bring_line.ensures.brought (state_of c.fill_line.new.pages) (filled (goal.at.returns-in-None-clause-stores c).After-fill_line)
+    (state_of c.settle_if_large.new.pages) c.settle_if_large.ensures.settles
 
 pub returns-in-None-clause-fronts : goal.returns-in-None-clause-fronts
 returns-in-None-clause-fronts c = none_known _ _ _ c.clear.ensures

@@ -18,7 +18,7 @@ returns-then-is_writable-clause-stores c =
     let it = c.line.ensures view at.is in
     let new = state_of c.put.new.pages in
     let bytes = c.args.bytes.now in
-    stored_in_line view new c.args.space c.args.address bytes
+    stored_in_line view new c.args.space c.args.address bytes c.requires.small
     (may_be_used view c.args.space c.args.address c.args.page at writable c.put.ensures.joined
     (sym (c.contains.ensures tt) ∙ c.if-contains.true))
     c.requires.some c.requires.one_line

@@ -64,7 +64,10 @@ pub put_in_page-requires-2-clause-there : goal.put_in_page-requires-2-clause-the
 put_in_page-requires-2-clause-there c =
     second_there (in_two c.in-Ok.ensures c.in-Ok-permit_store.ensures c.requires.front c.requires.over c.requires.two_pages
     c.lines_at-lines.ensures c.lines_at-more.ensures)
-    (state_of c.put_in_page.new.pages) c.put_in_page.ensures.stored
+    (state_of c.put_in_page.new.pages) c.pages-pages.ensures.once c.put_in_page.ensures.stored
+
+pub put_in_page-requires-2-clause-none_awaits : goal.put_in_page-requires-2-clause-none_awaits
+put_in_page-requires-2-clause-none_awaits c = c.put_in_page.ensures.stored.awaiting ∙ c.requires.none_awaits
 
 pub put_in_page-requires-2-clause-some : goal.put_in_page-requires-2-clause-some
 put_in_page-requires-2-clause-some c =
@@ -87,11 +90,11 @@ pub put_in_page-requires-2-clause-fits : goal.put_in_page-requires-2-clause-fits
 put_in_page-requires-2-clause-fits c =
     second_fits (in_two c.in-Ok.ensures c.in-Ok-permit_store.ensures c.requires.front c.requires.over c.requires.two_pages
     c.lines_at-lines.ensures c.lines_at-more.ensures)
-    (state_of c.put_in_page.new.pages) c.put_in_page.ensures.stored c.store_units-one.result c.store_units-two.result
+    (state_of c.put_in_page.new.pages) c.pages-pages.ensures.once c.put_in_page.ensures.stored c.store_units-one.result c.store_units-two.result
     c.store_units-one.ensures.rise c.store_units-two.ensures.rise c.in_default.ensures
 
 pub returns-clause-stores : goal.returns-clause-stores
 returns-clause-stores c =
     two_stored (in_two c.in-Ok.ensures c.in-Ok-permit_store.ensures c.requires.front c.requires.over c.requires.two_pages
     c.lines_at-lines.ensures c.lines_at-more.ensures)
-    (state_of c.put_in_page.new.pages) c.put_in_page.ensures.stored (state_of c.put_in_page-2.new.pages) c.put_in_page-2.ensures.stored
+    (state_of c.put_in_page.new.pages) c.pages-pages.ensures.once c.put_in_page.ensures.stored (state_of c.put_in_page-2.new.pages) c.put_in_page-2.ensures.stored

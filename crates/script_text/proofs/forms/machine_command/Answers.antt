@@ -1,9 +1,9 @@
 use Rattle.std.proofs.Common.{refl, codes, ◌∙◌}
-use Rattle.script_text.specs.declared.command.Command.TheVariants.{Exec, Load, Fork, Run, Step, Checkpoint, Restore, Forget, Speculate, Commit, Discard, Promote, Drop}
+use Rattle.script_text.specs.declared.command.Command.TheVariants.{Exec, Load, Fork, Run, Step, Checkpoint, Restore, Forget, Speculate, Commit, Discard, Promote, PromoteAll, Drop}
 use Rattle.script_text.specs.declared.command.Command.TheVariants as command
 use Rattle.script_text.specs.Words.{words_of}
 use Rattle.script_text.specs.Kinds.{file_word, checkpoint_word, turns_word, process_word, address_word, pages_word, perms_word, all_word}
-use Rattle.script_text.specs.Forms.{no_words, one_word, two_words, three_words, four_words, promote_all, machine_forms, made_by}
+use Rattle.script_text.specs.Forms.{no_words, one_word, two_words, three_words, four_words, machine_forms, made_by}
 use Rattle.script_text.specs.FormLaws.{◌beside◌}
 use Rattle.script_text.proofs.Rows.{at_row, at_rows, at_no_row, not_text, if_ok}
 use Rattle.script_text.proofs.forms.machine_command.Goals as goal
@@ -82,7 +82,7 @@ returns-then-eq-11 c =
 pub returns-then-eq-12 : goal.returns-then-eq-12
 returns-then-eq-12 c =
     c.promote.ensures
-    ∙ at_rows machine_forms (codes "promote") c.as_slice-else-eq-11.result.now (two_words process_word address_word Promote) (two_words process_word all_word promote_all)
+    ∙ at_rows machine_forms (codes "promote") c.as_slice-else-eq-11.result.now (two_words process_word address_word Promote) (two_words process_word all_word (λ p all. PromoteAll p))
     c.args.first.now (words_of c.args.words.now) (λ ws. refl) c.as_slice-else-eq-11.ensures c.if-eq-12.ensures
 
 pub returns-then-eq-13 : goal.returns-then-eq-13

@@ -1,4 +1,4 @@
-use Rattle.std.proofs.Common.{ap, ◌∙◌}
+use Rattle.std.proofs.Common.{ap, ◌∙◌, refl}
 use Rattle.std.specs.Prelude.{is_some}
 use Rattle.overlay_pages.specs.View as seen
 use Rattle.overlay_memory.specs.View.{state_of, cached_view}
@@ -11,7 +11,7 @@ use Rattle.overlay_memory.proofs.memory.OverlayMemory.commit_page.Goals as goal
 pub invariant_of-self : goal.invariant_of-self
 invariant_of-self c = (
   with_cache (seen.state_of c.commit_page.new.self) _ c.flush.new.self c.flush.ensures.flushed
-      (altered_translated committed (seen.state_of c.self.inside.pages) (seen.state_of c.commit_page.new.self) c.args.space c.args.page c.self.inside.cache c.commit_page.ensures.state
+      (altered_translated committed (λ x. refl) (seen.state_of c.self.inside.pages) (seen.state_of c.commit_page.new.self) c.args.space c.args.page c.self.inside.cache c.commit_page.ensures.state
       (ap (λ m. is_some (page_in (state_of m) c.args.space c.args.page)) c.self.view_is ∙ c.requires.there) c.self.invariant.0),
   none_known _ _ _ c.clear.ensures,
 )

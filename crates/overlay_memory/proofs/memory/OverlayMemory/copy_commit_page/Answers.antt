@@ -1,4 +1,4 @@
-use Rattle.std.proofs.Common.{ap, ◌∙◌}
+use Rattle.std.proofs.Common.{ap, ◌∙◌, refl}
 use Rattle.std.specs.Prelude.{is_some}
 use Rattle.overlay_pages.specs.View as seen
 use Rattle.overlay_memory.specs.View.{state_of, cached_view}
@@ -11,7 +11,7 @@ use Rattle.overlay_memory.proofs.memory.OverlayMemory.copy_commit_page.Goals as 
 pub invariant_of-self : goal.invariant_of-self
 invariant_of-self c = (
   with_cache (seen.state_of c.copy_commit_page.new.self) _ c.flush.new.self c.flush.ensures.flushed
-      (copied_translated (seen.state_of c.self.inside.pages) (seen.state_of c.copy_commit_page.new.self) c.args.space c.args.page (λ x frame. copied frame x) c.self.inside.cache
+      (copied_translated (seen.state_of c.self.inside.pages) (seen.state_of c.copy_commit_page.new.self) c.args.space c.args.page (λ x frame. copied frame x) c.self.inside.cache (λ x frame. refl)
       c.copy_commit_page.ensures.placed
       (ap (λ m. is_some (page_in (state_of m) c.args.space c.args.page)) c.self.view_is ∙ c.requires.there)
       (ap (λ m. (space_in (state_of m) c.args.space).awaiting) c.self.view_is ∙ c.requires.none_awaits) c.self.invariant.0),

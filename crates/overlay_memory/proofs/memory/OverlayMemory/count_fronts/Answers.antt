@@ -11,6 +11,7 @@ invariant_of-self c = (
   record {
     entries = hits_true (seen.state_of c.self.inside.pages) c.self.inside.cache c.count_hits.new.self c.args.n c.count_hits.ensures c.self.invariant.0.entries;
     apart = c.self.invariant.0.apart;
+    small = c.self.invariant.0.small;
   },
   hits_fronts c.self.inside.pages (bare c.self.inside.cache) (bare c.count_hits.new.self) c.args.n c.self.inside.fronts
       (ap bare c.count_hits.ensures ∙ bare_hits c.args.n c.self.inside.cache) c.self.invariant.1,

@@ -8,6 +8,7 @@ use Rattle.space_ledger.proofs.spaces.SpaceLedger.store_units.Goals.{After-rise_
 rising : (c : After-rise_of) → Rises c.self.inside.tables c.args.space c.args.page c.args.lines (space_in c.self.inside.tables c.args.space).speculating c.rise_of.result
 rising c =
     rises c.self.inside.tables c.args.space c.args.page c.args.lines c.bits_of-own.result (space_in c.self.inside.tables c.args.space).speculating c.is_alone-is_alone.result c.rise_of.result
+    (c.self.invariant.apart c.args.space)
     (ap (λ (v : LedgerView). is_some (page_in v c.args.space c.args.page)) c.self.view_is ∙ c.requires)
     (c.bits_of-own.ensures ∙ ap lines_of c.overlay.ensures.overlay)
     (c.is_alone-is_alone.ensures ∙ ap (λ (v : LedgerView). is_alone (ledger_of v) c.args.space c.args.page) (sym c.self.view_is))
