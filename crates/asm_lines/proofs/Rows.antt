@@ -230,7 +230,21 @@ item_alone w [] item begins is = ap (option_map Some) is
 item_alone w (c ∷ ws) item begins is =
     ap (λ (t : Bool). item_behind (cond t (front (Some w) ws) (front None (w ∷ c ∷ ws)))) begins ∙ ap (option_map Some) is
 
-pub text_read : (i : Instr) → IsEncodable i → i.name ≢ name.Fence → item_on (words (meaning_text (Some i))) ≡ Some (Some (Plain i))
+front_alone : (w : List ℕ) (ws : List (List ℕ)) → BeginsItem ws → (front_of (w ∷ ws)).label ≡ None
+unfolding front_of
+front_alone w [] begins = refl
+front_alone w (c ∷ ws) begins = ap (λ (t : Bool). (cond t (front (Some w) ws) (front None (w ∷ c ∷ ws))).label) begins
+
+-- the text of an instruction has no label
+pub text_unlabelled : (i : Instr) → (front_of (words (meaning_text (Some i)))).label ≡ None
+text_unlabelled i =
+    let row = row_of i.name in
+    let behind = behind_by row.format row i in
+    let operands = operands_by row.format row i in
+    let named = (and_parts (is_word (text_of i.name)) _ (plain_name i.name)).0 in
+    ap (λ ws. (front_of ws).label) (word_first (text_of i.name) operands named behind.ends) ∙ front_alone (text_of i.name) (words operands) behind.begins
+
+text_read : (i : Instr) → IsEncodable i → i.name ≢ name.Fence → item_on (words (meaning_text (Some i))) ≡ Some (Some (Plain i))
 text_read i ok other =
     let row = row_of i.name in
     let behind = behind_by row.format row i in

@@ -1,9 +1,10 @@
-ghost use Rattle.std.specs.Prelude.{◌≡◌, ◌-◌, ◌^◌, ◌==◌, pos, Some, None, MatchOption, Option};
+ghost use Rattle.std.specs.Prelude.{◌≡◌, ◌-◌, ◌^◌, ◌==◌, pos, Some, None, MatchOption, Option, IfSome};
 ghost use Rattle.std.specs.List.{list_all};
 ghost use Rattle.std.specs.Prelude.{neg_ℤ};
 ghost use Rattle.std.specs.Option.{option_map};
 ghost use Rattle.script_text.specs.Numbers.{within};
-ghost use Rattle.asm_lines.specs.Kinds.{limited, has_leading_zero, register_number, register_word, signed_word, fits, scaled, placed, immediate_word, cut, closed, and_then, offset_word, is_letter, is_name_byte, is_label};
+ghost use Rattle.rv_decode.specs.Encodable.{HasImmediate};
+ghost use Rattle.asm_lines.specs.Kinds.{limited, has_leading_zero, register_number, register_word, signed_word, fits, placed, immediate_word, cut, closed, and_then, offset_word, is_letter, is_name_byte, is_label};
 
 use crate::MOST_LABEL;
 use crate::numbers::{is_decimal, natural};
@@ -90,7 +91,7 @@ fn fits(format: Format, n: i64) -> bool
 }
 
 /// The immediate that is written as a number.
-pub fn placed(format: Format, n: i64) -> Option<i64>
+fn scaled(format: Format, n: i64) -> Option<i64>
     ensures { result ≡ placed format n }
 {
     if !fits(format, n) {
@@ -102,12 +103,20 @@ pub fn placed(format: Format, n: i64) -> Option<i64>
     }
 }
 
+/// The immediate of an instruction's format that is written as a number, where the number is in its range.
+pub fn placed(format: Format, n: i64) -> Option<i64>
+    ensures is { result ≡ placed format n }
+    ensures fits { IfSome result (HasImmediate format) }
+{
+    scaled(format, n)
+}
+
 /// The same of a number that may be missing.
 fn placed_in(format: Format, n: Option<i64>) -> Option<i64>
     ensures { result ≡ and_then n (λ n. placed format n) }
 {
     match n {
-        Some(n) => placed(format, n),
+        Some(n) => scaled(format, n),
         None => None,
     }
 }

@@ -4,6 +4,7 @@ ghost use Rattle.script_text.specs.Lines.{script_lines, without_return};
 ghost use Rattle.asm_lines.specs.Words.{words};
 ghost use Rattle.asm_lines.specs.Lines.{front, front_of, may_stand, item_at, item_behind, item_on};
 ghost use Rattle.asm_lines.specs.Said.{said, said_label, said_front, IsSound};
+ghost use Rattle.asm_lines.specs.Back.{ReadsBack};
 
 use crate::items::{Item, item_in};
 use crate::kinds::{cut, is_label};
@@ -124,6 +125,7 @@ fn item_behind<'a>(line: &'a [u8]) -> Option<Option<Item<'a>>>
 pub fn item_on<'a>(line: &'a [u8]) -> Option<Option<Item<'a>>>
     ensures is { option_map (option_map said) result ≡ item_on (words line.now) }
     ensures sound { IfSome result (λ o. IfSome o (λ item. IsSound (said item))) }
+    ensures back { ReadsBack }
 {
     item_behind(line)
 }
