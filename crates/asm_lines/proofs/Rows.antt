@@ -16,11 +16,11 @@ use Rattle.rv_decode.specs.TableLaws.{each_name}
 use Rattle.rv_decode.proofs.Decoded.{means_encodable}
 use Rattle.report_text.specs.Instructions.{register_text, three_registers_text, two_registers_text, offset_text, one_register_text, opcode, operands_by, meaning_text, instruction_text}
 use Rattle.asm_lines.specs.Words.{words, is_word, ends_word}
-use Rattle.asm_lines.specs.Kinds.{and_then, is_text, is_label, register_word, immediate_word, offset_word, target_word, name_word}
+use Rattle.asm_lines.specs.Kinds.{and_then, is_text, register_word, immediate_word, offset_word, target_word, name_word}
 use Rattle.asm_lines.specs.Kinds.Target.{By}
 use Rattle.asm_lines.specs.Items.{Item, at_end, pair, triple, instr, going, item_by, item_of_row, raw_item, item_in}
 use Rattle.asm_lines.specs.Items.Item.{Plain, Raw}
-use Rattle.asm_lines.specs.Lines.{front, front_of, is_colon, item_at, item_behind, item_on}
+use Rattle.asm_lines.specs.Lines.{front, front_of, is_colon, item_behind, item_on}
 use Rattle.asm_lines.proofs.Spelling.{word_first, no_words, words_two, words_three}
 use Rattle.asm_lines.proofs.Decimals.{register_is_word, signed_is_word}
 use Rattle.asm_lines.proofs.Operands.{immediate_read, target_read, three_read, two_read, one_read, address_read, offset_at, offset_grouped, offset_is_word, signed_fits, placed_fit, upper_whole, upper_fits, even_fits, below_fits}

@@ -10,12 +10,12 @@ use Rattle.rv_decode.specs.declared.rows.CaseRow.{CaseRow}
 use Rattle.rv_decode.specs.Table.{row_of, all_names, is_base, text_of}
 use Rattle.rv_decode.specs.Encodable.{HasRegisters, HasImmediate, IsSignedBelow, IsMultiple}
 use Rattle.report_text.specs.Instructions.{opcode}
-use Rattle.asm_lines.specs.Kinds.{Kind, Target, and_then, base_names, natural, raw_word, has_leading_zero, register_number, register_word, signed_word, is_signed, is_multiple, fits, scaled, placed, immediate_word, cut, closed, offset_parts, offset_word, is_label, target_word, name_word, is_text}
+use Rattle.asm_lines.specs.Kinds.{Kind, Target, and_then, natural, raw_word, has_leading_zero, register_number, register_word, signed_word, is_signed, is_multiple, fits, scaled, placed, immediate_word, cut, closed, offset_parts, offset_word, is_label, target_word, name_word, is_text}
 use Rattle.asm_lines.specs.Kinds.Target.{By, To}
 use Rattle.asm_lines.specs.Items.{three_words, two_words, one_word, pair, triple, at_end, Item, instr, going, item_by, item_of_row, raw_item, item_in}
 use Rattle.asm_lines.specs.Items.Item.{Plain, Raw}
 use Rattle.asm_lines.proofs.Ranges.{within_one}
-use Rattle.asm_lines.specs.Lines.{Front, front_of, may_stand, item_at, item_behind, item_on}
+use Rattle.asm_lines.specs.Lines.{front_of, may_stand, item_at, item_on}
 use Rattle.asm_lines.specs.declared.items.Item.{Item as GivenItem}
 use Rattle.asm_lines.specs.Said.{said, IsSound, GoesTo}
 use Rattle.script_text.specs.Numbers.{number_in, within}

@@ -1,6 +1,5 @@
 use Rattle.std.specs.Prelude.{ℕ, ◌^◌, ◌<◌, IsTrue, List, Option, Some, None}
 use Rattle.std.specs.Borrow.{Bor}
-use Rattle.std.specs.Option.{option_map}
 use Rattle.rv_decode.specs.declared.instruction.Instr.{Instr}
 use Rattle.rv_decode.specs.declared.names.Format.{Format}
 use Rattle.rv_decode.specs.Table.{row_of, is_base}

@@ -1,4 +1,4 @@
-use Rattle.std.proofs.Common.{◌≡◌, ℕ, ◌+◌, ◌==◌, ◌≤◌, ◌<◌, Bool, true, false, cond, List, [], ◌∷◌, ◌++◌, length, ap, sym, ◌∙◌, refl, arith, subst, Some, None, Ok, Err, append_assoc, append-nil, length-append}
+use Rattle.std.proofs.Common.{◌≡◌, ℕ, ◌+◌, ◌==◌, ◌≤◌, Bool, true, false, cond, List, [], ◌∷◌, ◌++◌, length, ap, sym, ◌∙◌, refl, arith, subst, Some, None, Err, append_assoc, append-nil, length-append}
 use Rattle.std.specs.Prelude.{Option}
 use Rattle.std.specs.Option.{option_map, option_or}
 use Rattle.std.proofs.lemmas.Bool.Decides.{nat_tests}
@@ -7,17 +7,17 @@ use Rattle.std.specs.Int.{to_le_bytes, w32}
 use Rattle.script_text.specs.Lines.{script_lines, without_return}
 use Rattle.asm_lines.specs.Words.{words}
 use Rattle.asm_lines.specs.Items.{Item, item_in}
-use Rattle.asm_lines.specs.Lines.{Front, front_of, may_stand, item_at, item_on, lines_in}
+use Rattle.asm_lines.specs.Lines.{front_of, may_stand, item_at, item_on, lines_in}
 use Rattle.rv_asm.specs.declared.code.Coded.{Coded}
 use Rattle.rv_asm.specs.declared.error.AsmError.{AsmError}
-use Rattle.rv_asm.specs.declared.error.AsmError.TheVariants.{BadLine, Twice, NoLabel, OutOfReach, Empty, TooMany, Memory}
+use Rattle.rv_asm.specs.declared.error.AsmError.TheVariants.{NoLabel, Memory}
 use Rattle.rv_asm.specs.declared.outcomes.Outcome.{Outcome}
 use Rattle.rv_asm.specs.declared.outcomes.Outcome.TheVariants.{Word, Missing, Far}
 use Rattle.rv_asm.specs.Labels.{item_count}
 use Rattle.rv_asm.specs.Outcomes.{with_outcome, outcomes_from, outcomes_of, first_missing, first_far, words_in}
 use Rattle.rv_asm.specs.File.{code_of}
 use Rattle.rv_asm.specs.Assembly.{outside_or, outside_from, first_outside}
-use Rattle.rv_asm.specs.Given.{IsCoded, IsCodedBehind, Notes, Codes}
+use Rattle.rv_asm.specs.Given.{IsCoded, IsCodedBehind, RefusesItems, Codes}
 use Rattle.rv_asm.proofs.Labelling.{lines_next, no_lines}
 
 -- What items come to, some behind others.
@@ -83,6 +83,7 @@ count_at labels k n (w ∷ ws) o h = ap (λ (t : Bool). cond t 0 1) some ∙ by 
   where
     some : (length (w ∷ ws) == 0) ≡ false
     some = grind (arith, nat_tests)
+
     by : (x : Option Item) (o : Option Item) → option_map Some x ≡ Some o → 1 ≡ length (with_outcome labels k n (Some o) [])
     by None o h = cc
     by (Some i) None h = cc
@@ -101,6 +102,10 @@ outcome_behind : (labels : List (List ℕ × ℕ)) (k n : ℕ) (o : Option Item)
     → with_outcome labels k n (Some o) more ≡ with_outcome labels k n (Some o) [] ++ more
 outcome_behind labels k n None more = refl
 outcome_behind labels k n (Some i) more = refl
+
+pub few_taken : (labels : List (List ℕ × ℕ)) (k n : ℕ) (o : Option Item) → length (with_outcome labels k n (Some o) []) ≤ 1
+few_taken labels k n None = omega arith
+few_taken labels k n (Some i) = omega arith
 
 next_outcomes : (labels : List (List ℕ × ℕ)) (k n : ℕ) (rest line left : List ℕ) (o : Option Item) → script_lines rest ≡ line ∷ script_lines left
     → Some o ≡ item_on (words (without_return line))
@@ -153,15 +158,11 @@ pub all_taken : (labels : List (List ℕ × ℕ)) (all : List (ℕ × Outcome)) 
 all_taken labels all k rest c taken none =
     subst (λ os. IsCoded os c) (sym (taken.whole ∙ ap (λ ls. taken.done ++ outcomes_from labels k c.items ls) (no_lines rest none) ∙ append-nil taken.done)) taken.coded
 
-pub refused_coded : (labels : List (List ℕ × ℕ)) (lines_all : List (List (List ℕ))) (k : ℕ) (rest line left : List ℕ) (o : Option Item) (c d : Coded)
-    → AreTaken (outcomes_of labels lines_all) (outcomes_from labels k c.items (lines_in rest)) c → script_lines rest ≡ line ∷ script_lines left
+pub refused_coded : (labels : List (List ℕ × ℕ)) (all_lines : List (List (List ℕ))) (k : ℕ) (rest line left : List ℕ) (o : Option Item) (c : Coded)
+    → AreTaken (outcomes_of labels all_lines) (outcomes_from labels k c.items (lines_in rest)) c → script_lines rest ≡ line ∷ script_lines left
     → Some o ≡ item_on (words (without_return line))
-    → (e : AsmError) → Notes (with_outcome labels k c.items (Some o) []) c d (Err e) → Codes labels lines_all (Err e)
-refused_coded labels lines_all k rest line left o c d taken lines is (NoLabel j) h =
-    one_missing labels (outcomes_of labels lines_all) k j rest line left o c taken lines is h
-refused_coded labels lines_all k rest line left o c d taken lines is Memory h = tt
-refused_coded labels lines_all k rest line left o c d taken lines is (BadLine j) h = absurd h
-refused_coded labels lines_all k rest line left o c d taken lines is (Twice j) h = absurd h
-refused_coded labels lines_all k rest line left o c d taken lines is (OutOfReach j) h = absurd h
-refused_coded labels lines_all k rest line left o c d taken lines is Empty h = absurd h
-refused_coded labels lines_all k rest line left o c d taken lines is TooMany h = absurd h
+    → (e : AsmError) → RefusesItems (with_outcome labels k c.items (Some o) []) e → Codes labels all_lines (Err e)
+refused_coded labels all_lines k rest line left o c taken lines is (NoLabel j) h =
+    one_missing labels (outcomes_of labels all_lines) k j rest line left o c taken lines is h
+refused_coded labels all_lines k rest line left o c taken lines is Memory h = tt
+refused_coded labels all_lines k rest line left o c taken lines is _ h = absurd h

@@ -10,21 +10,12 @@ use Rattle.rv_asm.specs.declared.outcomes.Outcome.{Outcome}
 use Rattle.rv_asm.specs.declared.outcomes.Outcome.TheVariants.{Word, Missing, Far}
 use Rattle.rv_asm.specs.Labels.{labels_of}
 use Rattle.rv_asm.specs.Outcomes.{outcomes_of, first_missing, first_far, words_in}
-use Rattle.rv_asm.specs.File.{code_of, file_with, file_of, IsLoaded}
+use Rattle.rv_asm.specs.File.{file_with, file_of, IsLoaded}
 use Rattle.rv_asm.specs.Assembly.{first_outside, count_refusal, refusal, or_words, words_by, words_of, file_by, assembled, Is, IsFileOf}
-use Rattle.rv_asm.specs.Given.{GivesLabels, IsCoded, Codes, IsWithin, finished, Finishes, outside_error}
+use Rattle.rv_asm.specs.Given.{RefusesLabels, IsCoded, Codes, IsWithin, finished, Finishes, outside_error}
 use Rattle.rv_asm.proofs.Loading.{code_length, words_loaded}
 
 -- The answers of assembling.
-
-pub is_err : {V : Type 0} (view : V → List ℕ) (r : Result (List ℕ) AsmError) (e : AsmError) → r ≡ Err e → Is view r (Err e)
-is_err view r (BadLine k) h = h
-is_err view r (Twice k) h = h
-is_err view r (NoLabel k) h = h
-is_err view r (OutOfReach k) h = h
-is_err view r Empty h = h
-is_err view r TooMany h = h
-is_err view r Memory h = tt
 
 -- what is assembled of a text without a line outside
 abbrev pub told : Result (List (List ℕ × ℕ)) ℕ → List (List (List ℕ)) → Result (List ℕ) AsmError
@@ -39,18 +30,13 @@ unfolding assembled words_of
 outside_is text k out = ap (λ o. file_by (words_by o (labels_of (lines_in text)) (lines_in text))) out
 
 -- where the labels were refused
-pub labels_refused : {V W : Type 0} (view : V → List ℕ) (look : W → List (List ℕ × ℕ)) (text : List ℕ) (e : AsmError)
-    → GivesLabels look (labels_of (lines_in text)) (Err e) → IsWithin view text (Err e)
-labels_refused view look text e gives = record { file = λ inside. by e gives inside; inside = tt }
+pub labels_refused : {V : Type 0} (view : V → List ℕ) (text : List ℕ) (e : AsmError) → RefusesLabels (labels_of (lines_in text)) e → IsWithin view text (Err e)
+labels_refused view text e refuses = record { file = λ inside. by e refuses inside; inside = tt }
   where
-    by : (e : AsmError) → GivesLabels look (labels_of (lines_in text)) (Err e) → first_outside (lines_in text) ≡ None → Is view (assembled text) (Err e)
+    by : (e : AsmError) → RefusesLabels (labels_of (lines_in text)) e → first_outside (lines_in text) ≡ None → Is view (assembled text) (Err e)
     by (Twice k) h inside = told_is text inside ∙ ap (λ r. told r (lines_in text)) h
     by Memory h inside = tt
-    by (BadLine k) h inside = absurd h
-    by (NoLabel k) h inside = absurd h
-    by (OutOfReach k) h inside = absurd h
-    by Empty h inside = absurd h
-    by TooMany h inside = absurd h
+    by _ h inside = absurd h
 
 -- what is told of items
 abbrev pub told_of : List (ℕ × Outcome) → Result (List ℕ) AsmError
@@ -73,10 +59,7 @@ code_refused view text labels e is codes = record { file = λ inside. by e codes
     by (BadLine k) h inside = let out : None ≡ Some k = sym inside ∙ h in cc
     by (NoLabel k) h inside = told_labelled text labels is inside ∙ missing_refused (outcomes_of labels (lines_in text)) k h
     by Memory h inside = tt
-    by (Twice k) h inside = absurd h
-    by (OutOfReach k) h inside = absurd h
-    by Empty h inside = absurd h
-    by TooMany h inside = absurd h
+    by _ h inside = absurd h
 
 -- where all labels are there, each item has a word or is out of reach
 as_many : (os : List (ℕ × Outcome)) → first_missing os ≡ None → first_far os ≡ None → length (words_in os) ≡ length os
@@ -132,6 +115,9 @@ code_finished view text labels c r is codes finishes = record {
   inside = inside_all text r codes.0;
 }
 
+pub told_file : {V : Type 0} (view : V → List ℕ) (text : List ℕ) (v : V) → IsWithin view text (Ok v) → assembled text ≡ Ok (view v)
+told_file view text v h = h.file h.inside
+
 -- a refusal of a text, whether or not a line of it is outside
 pub refused_or : {V : Type 0} (view : V → List ℕ) (text : List ℕ) (e f : AsmError) → IsWithin view text (Err e) → f ≡ outside_error (first_outside (lines_in text)) e
     → Is view (assembled text) (Err f)
@@ -148,6 +134,7 @@ told_few os None ws is h = by (first_missing os) refl is
   where
     same : words_in os ≡ ws
     same = cc
+
     by : (missing : Option ℕ) → first_missing os ≡ missing
         → option_or (option_map NoLabel missing) (option_or (option_map OutOfReach (first_far os)) (count_refusal (length os))) ≡ None → (0 < length ws) × (length ws ≤ 65536)
     by (Some k) there left = cc
@@ -162,17 +149,18 @@ words_few (Some k) labels lines ws h = cc
 words_few None (Err k) lines ws h = cc
 words_few None (Ok labels) lines ws h = told_few (outcomes_of labels lines) (refusal (outcomes_of labels lines)) ws refl h
 
+text_few : (text ws : List ℕ) → words_of text ≡ Ok ws → (0 < length ws) × (length ws ≤ 65536)
+unfolding words_of
+text_few text ws is = words_few (first_outside (lines_in text)) (labels_of (lines_in text)) (lines_in text) ws is
+
 -- the file of a text
 pub file_is : (text file : List ℕ) → assembled text ≡ Ok file → IsFileOf text file
 unfolding assembled
 file_is text file h = by (words_of text) refl h
   where
-    few : (ws : List ℕ) → words_of text ≡ Ok ws → (0 < length ws) × (length ws ≤ 65536)
-    unfolding words_of
-    few ws is = words_few (first_outside (lines_in text)) (labels_of (lines_in text)) (lines_in text) ws is
     by : (r : Result (List ℕ) AsmError) → words_of text ≡ r → file_by r ≡ Ok file → IsFileOf text file
     by (Err e) is h = cc
     by (Ok ws) is h =
         let same : file_of ws ≡ file = cc in
-        let bounds = few ws is in
+        let bounds = text_few text ws is in
         record { words = ws; of_text = is; loaded = subst (IsLoaded ws) same (words_loaded ws bounds.0 bounds.1) }

@@ -1,4 +1,4 @@
-use Rattle.std.proofs.Common.{◌≡◌, ℕ, zero, suc, ◌+◌, ◌*◌, ◌^◌, ◌<◌, ◌≤◌, ◌==◌, ◌||◌, ◌&&◌, not, nat_lt, nat_le, ◌-◌, Bool, true, false, cond, List, [], ◌∷◌, ◌++◌, length, length-append, ap, sym, ◌∙◌, refl, arith, Some, None}
+use Rattle.std.proofs.Common.{◌≡◌, ℕ, zero, suc, ◌+◌, ◌*◌, ◌^◌, ◌<◌, ◌≤◌, ◌||◌, ◌&&◌, not, nat_lt, nat_le, ◌-◌, Bool, true, false, cond, List, [], ◌∷◌, ◌++◌, length, length-append, ap, ◌∙◌, refl, arith, Some, None}
 use Rattle.std.specs.List.{list_any, filter, range_with_len}
 use Rattle.std.proofs.lemmas.Bool.{le-ltb, lt-ltb, le-leb, and_right, and_from, or_from}
 use Rattle.std.proofs.lemmas.List.{get_or-append-add}
@@ -9,7 +9,7 @@ use Rattle.elf_loader.specs.Image.{byte_in}
 use Rattle.sizes.specs.declared.TheConstants.{STACK_ADDRESS, MOST_IMAGE_PAGES}
 use Rattle.elf_loader.specs.declared.image.ElfError.TheVariants.{TooShort, TableOutside, NeedsInterpreter, FileLarger, SegmentOutside, AddressOutside, NothingToLoad}
 use Rattle.elf_loader.specs.declared.header.ProgramHeader.{ProgramHeader}
-use Rattle.elf_loader.specs.Fields.{number_at, table_offset, table_length, headers_of, loads_of}
+use Rattle.elf_loader.specs.Fields.{number_at, table_length, headers_of, loads_of}
 use Rattle.elf_loader.specs.Accepted.{has_bad_magic, is_not_class_64, is_not_little, has_bad_version, is_not_executable, is_not_riscv, has_bad_entry_size, has_table_outside, file_refusal, header_refusals, table_refusals, Refusal, first_error, names_interpreter, is_larger_in_file, is_outside_file, is_too_high, has_memory}
 use Rattle.elf_loader.specs.Touched.{page_numbers, touches_memory, pages_in}
 use Rattle.elf_loader.proofs.Taken.{taken_by}
@@ -122,7 +122,7 @@ past size q small over =
 few_pages : (size : ℕ) (code : List ℕ) → size ≤ 262144 → length (pages_in (loads_of (file_with size code))) ≤ MOST_IMAGE_PAGES
 few_pages size code small =
     let few = few_pass (λ page. list_any (touches_memory page) (loads_of (file_with size code))) 81 0 page_numbers
-      (λ q over. ap (λ ls. list_any (touches_memory q) ls) (loads size code (omega arith)) ∙ past size q small (omega arith)) in
+    (λ q over. ap (λ ls. list_any (touches_memory q) ls) (loads size code (omega arith)) ∙ past size q small (omega arith)) in
     omega (arith, few)
 
 -- the file is taken
@@ -140,7 +140,7 @@ byte_at : (size : ℕ) (code : List ℕ) (k : ℕ) → size < 2 ^ 32 → k < siz
 byte_at size code k small below =
     let file = file_with size code in
     let inside : nat_le 0x10078 (0x10078 + k) && nat_lt (0x10078 + k) (0x10078 + size) ≡ true =
-      and_from (nat_le 0x10078 (0x10078 + k)) (nat_lt (0x10078 + k) (0x10078 + size)) (le-leb 0x10078 (0x10078 + k) (omega arith)) (lt-ltb (0x10078 + k) (0x10078 + size) (omega arith)) in
+    and_from (nat_le 0x10078 (0x10078 + k)) (nat_lt (0x10078 + k) (0x10078 + size)) (le-leb 0x10078 (0x10078 + k) (omega arith)) (lt-ltb (0x10078 + k) (0x10078 + size) (omega arith)) in
     let place : 120 + (0x10078 + k - 0x10078) ≡ 120 + k = omega arith in
     ap (λ ls. byte_in ls file (0x10078 + k)) (loads size code small)
     ∙ held (nat_le 0x10078 (0x10078 + k) && nat_lt (0x10078 + k) (0x10078 + size)) (segment size size) file (0x10078 + k) inside

@@ -1,7 +1,7 @@
-use Rattle.std.proofs.Common.{◌≡◌, ◌≢◌, ℕ, ◌+◌, ◌^◌, ◌<◌, ◌==◌, ◌||◌, ◌&&◌, nat_le, Bool, true, false, cond, List, [], ◌∷◌, ◌++◌, length, map, ap, sym, subst, ◌∙◌, refl, arith, codes, Some, None, Ok, length-append}
-use Rattle.std.specs.Prelude.{Option, ℤ, pos, negsuc, int_div}
+use Rattle.std.proofs.Common.{◌≡◌, ◌≢◌, ℕ, ◌+◌, ◌^◌, ◌<◌, ◌==◌, ◌||◌, nat_le, Bool, true, false, cond, List, [], ◌∷◌, ◌++◌, length, map, ap, sym, subst, ◌∙◌, refl, arith, codes, Some, None, Ok, length-append}
+use Rattle.std.specs.Prelude.{ℤ, pos, negsuc, int_div}
 use Rattle.std.specs.List.{list_all}
-use Rattle.std.proofs.lemmas.Bool.{and_parts, and_from, leb-true}
+use Rattle.std.proofs.lemmas.Bool.{and_parts, leb-true}
 use Rattle.std.proofs.lemmas.Bool.Decides.{nat_tests}
 use Rattle.script_text.specs.Lines.{onto_first, script_lines, without_return}
 use Rattle.script_text.specs.Numbers.{is_decimal}
@@ -20,9 +20,8 @@ use Rattle.rv_decode.proofs.Encodes.{sum-means}
 use Rattle.report_text.specs.Digits.{in_decimal, signed_text}
 use Rattle.report_text.specs.Instructions.{register_text, three_registers_text, two_registers_text, offset_text, one_register_text, opcode, operands_by, meaning_text, instruction_text}
 use Rattle.asm_lines.specs.Words.{words}
-use Rattle.asm_lines.specs.Items.{Item}
 use Rattle.asm_lines.specs.Items.Item.{Plain}
-use Rattle.asm_lines.specs.Lines.{Front, front_of, may_stand, item_at, item_on, lines_in}
+use Rattle.asm_lines.specs.Lines.{front_of, item_on, lines_in}
 use Rattle.asm_lines.proofs.Decimals.{decimal_natural}
 use Rattle.asm_lines.proofs.Operands.{weaker, both_all}
 use Rattle.asm_lines.proofs.Rows.{text_unlabelled, word_read}

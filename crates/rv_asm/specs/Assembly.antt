@@ -61,12 +61,7 @@ assembled text = file_by (words_of text)
 abbrev pub Is : {V : Type 0} → (V → List ℕ) → Result (List ℕ) AsmError → Result V AsmError → Type 0
 Is view r (Ok v) = r ≡ Ok (view v)
 Is view r (Err Memory) = Unit {0}
-Is view r (Err (BadLine k)) = r ≡ Err (BadLine k)
-Is view r (Err (Twice k)) = r ≡ Err (Twice k)
-Is view r (Err (NoLabel k)) = r ≡ Err (NoLabel k)
-Is view r (Err (OutOfReach k)) = r ≡ Err (OutOfReach k)
-Is view r (Err Empty) = r ≡ Err Empty
-Is view r (Err TooMany) = r ≡ Err TooMany
+Is view r (Err e) = r ≡ Err e
 
 -- what a file of a text is: its words, which are loaded
 pub record IsFileOf (text file : List ℕ) : Type 0 where

@@ -4,7 +4,7 @@ use Rattle.std.specs.Option.{option_map, option_or}
 use Rattle.asm_lines.specs.Lines.{lines_in}
 use Rattle.rv_asm.specs.declared.code.Coded.{Coded}
 use Rattle.rv_asm.specs.declared.error.AsmError.{AsmError}
-use Rattle.rv_asm.specs.declared.error.AsmError.TheVariants.{BadLine, Twice, NoLabel, OutOfReach, Empty, TooMany, Memory}
+use Rattle.rv_asm.specs.declared.error.AsmError.TheVariants.{BadLine, Twice, NoLabel, OutOfReach, Memory}
 use Rattle.rv_asm.specs.declared.outcomes.Outcome.{Outcome}
 use Rattle.rv_asm.specs.File.{code_of, file_with}
 use Rattle.rv_asm.specs.Outcomes.{outcomes_of, first_missing, first_far, words_in}
@@ -16,27 +16,21 @@ use Rattle.rv_asm.specs.Assembly.{first_outside, count_refusal, Is, assembled}
 abbrev pub said_labels : List (Bor (List ℕ) × ℕ) → List (List ℕ × ℕ)
 said_labels entries = map (λ (e : Bor (List ℕ) × ℕ). (e.0.now, e.1)) entries
 
--- labels with one more, or its line where it stands before it
+-- why there are no labels: one stands before its line, or there is no memory
+abbrev pub RefusesLabels : Result (List (List ℕ × ℕ)) ℕ → AsmError → Type 0
+RefusesLabels r (Twice k) = r ≡ Err k
+RefusesLabels r Memory = Unit {0}
+RefusesLabels r _ = ⊥
+
+-- labels with one more
 abbrev pub Puts : List (List ℕ × ℕ) → Result (List (List ℕ × ℕ)) ℕ → Result (Unit {0}) AsmError → Type 0
 Puts labels r (Ok _) = r ≡ Ok labels
-Puts labels r (Err (Twice k)) = r ≡ Err k
-Puts labels r (Err Memory) = Unit {0}
-Puts labels r (Err (BadLine k)) = ⊥
-Puts labels r (Err (NoLabel k)) = ⊥
-Puts labels r (Err (OutOfReach k)) = ⊥
-Puts labels r (Err Empty) = ⊥
-Puts labels r (Err TooMany) = ⊥
+Puts labels r (Err e) = RefusesLabels r e
 
--- labels, or the line of one that stands before it; memory may be wanting
+-- all labels
 abbrev pub GivesLabels : {V : Type 0} → (V → List (List ℕ × ℕ)) → Result (List (List ℕ × ℕ)) ℕ → Result V AsmError → Type 0
 GivesLabels view r (Ok v) = r ≡ Ok (view v)
-GivesLabels view r (Err (Twice k)) = r ≡ Err k
-GivesLabels view r (Err Memory) = Unit {0}
-GivesLabels view r (Err (BadLine k)) = ⊥
-GivesLabels view r (Err (NoLabel k)) = ⊥
-GivesLabels view r (Err (OutOfReach k)) = ⊥
-GivesLabels view r (Err Empty) = ⊥
-GivesLabels view r (Err TooMany) = ⊥
+GivesLabels view r (Err e) = RefusesLabels r e
 
 -- what is made of items all of whose labels are there: the bytes of their words, where they aren't too many
 pub record IsCoded (os : List (ℕ × Outcome)) (c : Coded) : Type 0 where
@@ -52,27 +46,21 @@ pub record IsCodedBehind (os : List (ℕ × Outcome)) (old new : Coded) : Type 0
   pub count : new.items ≡ old.items + length os
   pub code : new.items ≤ 65536 → new.code.items ≡ old.code.items ++ code_of (words_in os)
 
--- unless there is a label among them that isn't there
+-- unless there is a label among them that isn't there, or no memory
+abbrev pub RefusesItems : List (ℕ × Outcome) → AsmError → Type 0
+RefusesItems os (NoLabel k) = first_missing os ≡ Some k
+RefusesItems os Memory = Unit {0}
+RefusesItems os _ = ⊥
+
 abbrev pub Notes : List (ℕ × Outcome) → Coded → Coded → Result (Unit {0}) AsmError → Type 0
 Notes os old new (Ok _) = IsCodedBehind os old new
-Notes os old new (Err (NoLabel k)) = first_missing os ≡ Some k
-Notes os old new (Err Memory) = Unit {0}
-Notes os old new (Err (BadLine k)) = ⊥
-Notes os old new (Err (Twice k)) = ⊥
-Notes os old new (Err (OutOfReach k)) = ⊥
-Notes os old new (Err Empty) = ⊥
-Notes os old new (Err TooMany) = ⊥
+Notes os old new (Err e) = RefusesItems os e
 
 -- what lines are made into, with such labels
 abbrev pub Codes : List (List ℕ × ℕ) → List (List (List ℕ)) → Result Coded AsmError → Type 0
 Codes labels lines (Ok c) = (first_outside lines ≡ None) × IsCoded (outcomes_of labels lines) c
 Codes labels lines (Err (BadLine k)) = first_outside lines ≡ Some k
-Codes labels lines (Err (NoLabel k)) = first_missing (outcomes_of labels lines) ≡ Some k
-Codes labels lines (Err Memory) = Unit {0}
-Codes labels lines (Err (Twice k)) = ⊥
-Codes labels lines (Err (OutOfReach k)) = ⊥
-Codes labels lines (Err Empty) = ⊥
-Codes labels lines (Err TooMany) = ⊥
+Codes labels lines (Err e) = RefusesItems (outcomes_of labels lines) e
 
 -- what a text is made into where no line of it is outside the grammar
 pub record IsWithin {V : Type 0} (view : V → List ℕ) (text : List ℕ) (r : Result V AsmError) : Type 0 where

@@ -63,8 +63,9 @@ fn first_outside(text: &[u8]) -> Option<u32>
     let mut k: u32 = 1;
     'lines: while !rest.is_empty() {
         let (line, behind) = first_line(rest);
-        if item_on(without_return(line)).is_none() {
-            return Some(k);
+        match item_on(without_return(line)) {
+            Some(_) => {}
+            None => return Some(k),
         }
         k += 1;
         rest = behind;

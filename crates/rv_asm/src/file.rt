@@ -5,14 +5,15 @@ use std::alloc::{AllocError, Global};
 
 /// The header of each file, of 64 bytes.
 const FILE_HEADER: [u8; 64] = [
-    0x7F, 0x45, 0x4C, 0x46, 2, 1, 1, 0, 0, 0, 0, 0, 0, 0, 0, 0, 2, 0, 0xF3, 0, 1, 0, 0, 0, 0x78, 0, 1, 0,
-    0, 0, 0, 0, 0x40, 0, 0, 0, 0, 0, 0, 0, 0, 0, 0, 0, 0, 0, 0, 0, 0, 0, 0, 0, 0x40, 0, 0x38, 0, 1, 0, 0,
-    0, 0, 0, 0, 0,
+    0x7F, 0x45, 0x4C, 0x46, 2, 1, 1, 0, 0, 0, 0, 0, 0, 0, 0, 0, 2, 0, 0xF3, 0, 1, 0, 0, 0, 0x78, 0,
+    1, 0, 0, 0, 0, 0, 0x40, 0, 0, 0, 0, 0, 0, 0, 0, 0, 0, 0, 0, 0, 0, 0, 0, 0, 0, 0, 0x40, 0, 0x38,
+    0, 1, 0, 0, 0, 0, 0, 0, 0,
 ];
 
 /// The program header's fields before the sizes: its kind, flags, offset and address, twice.
 const SEGMENT_FRONT: [u8; 32] = [
-    1, 0, 0, 0, 7, 0, 0, 0, 0x78, 0, 0, 0, 0, 0, 0, 0, 0x78, 0, 1, 0, 0, 0, 0, 0, 0x78, 0, 1, 0, 0, 0, 0, 0,
+    1, 0, 0, 0, 7, 0, 0, 0, 0x78, 0, 0, 0, 0, 0, 0, 0, 0x78, 0, 1, 0, 0, 0, 0, 0, 0x78, 0, 1, 0, 0,
+    0, 0, 0,
 ];
 
 /// The program header's field behind the sizes: that a segment begins at a page's start.
