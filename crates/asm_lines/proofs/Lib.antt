@@ -9,3 +9,4 @@ pub mod Operands
 pub mod Rows
 pub mod Soundness
 pub mod TextLines
+pub mod Narrowing

@@ -1,7 +1,9 @@
-use Rattle.std.proofs.Common.{◌≡◌, ℕ, zero, suc, ◌+◌, ◌<◌, ◌==◌, Bool, true, false, cond, List, [], ◌∷◌, length, take, get_or, ap, sym, ◌∙◌, refl, arith, Some, None}
+use Rattle.std.proofs.Common.{◌≡◌, ℕ, zero, suc, ◌+◌, ◌<◌, ◌==◌, Bool, true, false, cond, List, [], ◌∷◌, length, take, get_or, ap, sym, ◌∙◌, refl, arith, eqb-true, Some, None}
 use Rattle.std.specs.Prelude.{Option}
 use Rattle.script_text.specs.Lines.{onto_first, script_lines, without_return}
+use Rattle.asm_lines.specs.Words.{words}
 use Rattle.asm_lines.specs.Kinds.{cut, with_front}
+use Rattle.asm_lines.specs.Lines.{front, front_of, item_on}
 
 -- Lines, by the first end.
 abbrev pub split : Option (List ℕ × List ℕ) → List ℕ → List (List ℕ)
@@ -55,3 +57,14 @@ line_kept (b ∷ []) zero h last = sym (ap (λ (t : Bool). cond t [] (b ∷ []))
 line_kept (b ∷ []) (suc k) h last = absurd (omega arith)
 line_kept (b ∷ c ∷ line) zero h last = absurd (omega arith)
 line_kept (b ∷ c ∷ line) (suc k) h last = ap (λ bs. b ∷ bs) (line_kept (c ∷ line) k (omega arith) last)
+
+-- A line without bytes.
+pub empty_front : (line : List ℕ) → (length line == 0) ≡ true → front_of (words line) ≡ front None (words line)
+unfolding front_of words
+empty_front [] h = refl
+empty_front (b ∷ line) h = let none = eqb-true (length (b ∷ line)) 0 h in absurd (omega arith)
+
+pub empty_item : (line : List ℕ) → (length line == 0) ≡ true → item_on (words line) ≡ Some None
+unfolding item_on front_of words
+empty_item [] h = refl
+empty_item (b ∷ line) h = let none = eqb-true (length (b ∷ line)) 0 h in absurd (omega arith)

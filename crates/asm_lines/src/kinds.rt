@@ -129,6 +129,7 @@ pub(crate) fn immediate_word(format: Format, word: &[u8]) -> Option<i64>
 }
 
 /// What stands before the first byte of that value, and what stands behind it.
+#[inline]
 pub(crate) fn cut(bytes: &[u8], at: u8) -> Option<(&[u8], &[u8])>
     ensures { MatchOption result (cut at bytes.now ≡ None) (λ p. cut at bytes.now ≡ Some (p.0.now, p.1.now)) }
 {

@@ -46,9 +46,9 @@ pub fn without_return(line: &[u8]) -> &[u8]
     }
 }
 
-/// The label that stands before a line's item, and the item's text.
+/// The label that stands before the item of a line with words, and the item's text.
 #[tactic(auto, unfolding(crate::specs::Lines::front_of))]
-pub fn front_of<'a>(line: &'a [u8]) -> Front<'a>
+fn front_of_words<'a>(line: &'a [u8]) -> Front<'a>
     ensures { said_front result ≡ front_of (words line.now) }
 {
     match next_word(line) {
@@ -78,7 +78,22 @@ pub fn front_of<'a>(line: &'a [u8]) -> Front<'a>
     }
 }
 
+/// The label that stands before a line's item, and the item's text.
+#[inline]
+pub fn front_of<'a>(line: &'a [u8]) -> Front<'a>
+    ensures { said_front result ≡ front_of (words line.now) }
+{
+    if line.is_empty() {
+        return Front {
+            label: None,
+            item: line,
+        };
+    }
+    front_of_words(line)
+}
+
 /// Whether an item stands on a line.
+#[inline]
 pub fn has_item(front: &Front<'_>) -> bool
     ensures { result ≡ not (length (said_front front.now).item == 0) }
 {
@@ -122,10 +137,14 @@ fn item_behind<'a>(line: &'a [u8]) -> Option<Option<Item<'a>>>
 }
 
 /// The item on a line, if it has one; nothing where the line is outside the grammar.
+#[inline]
 pub fn item_on<'a>(line: &'a [u8]) -> Option<Option<Item<'a>>>
     ensures is { option_map (option_map said) result ≡ item_on (words line.now) }
     ensures sound { IfSome result (λ o. IfSome o (λ item. IsSound (said item))) }
     ensures back { ReadsBack }
 {
+    if line.is_empty() {
+        return Some(None);
+    }
     item_behind(line)
 }

@@ -25,7 +25,11 @@ fn is_mark(b: u8) -> bool
 fn is_inner(b: u8) -> bool
     ensures { result ≡ is_inner b }
 {
-    !(b == b'#' || is_blank(b) || is_mark(b))
+    if b > b',' {
+        b != b':'
+    } else {
+        !(b == b'#' || is_blank(b) || b == b',')
+    }
 }
 
 /// The word that a text begins with, and the text behind it.
@@ -45,6 +49,7 @@ fn front_word(text: &[u8]) -> (&[u8], &[u8])
 }
 
 /// The first word of a text, and the text behind it.
+#[inline]
 pub(crate) fn next_word(text: &[u8]) -> Option<(&[u8], &[u8])>
     ensures { MatchOption result (words text.now ≡ [])
         (λ parts. words text.now ≡ parts.0.now ∷ words parts.1.now) }
@@ -61,6 +66,7 @@ pub(crate) fn next_word(text: &[u8]) -> Option<(&[u8], &[u8])>
 }
 
 /// Whether a text has no word.
+#[inline]
 pub(crate) fn no_words(text: &[u8]) -> bool
     ensures { result ≡ (length (words text.now) == 0) }
 {
