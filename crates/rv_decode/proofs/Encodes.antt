@@ -1,4 +1,4 @@
--- A word is its fixed bits, its registers and its immediate, by format; and the encoder's sum for a whole row.
+-- A word is its fixed bits, its registers and its immediate, by format; and the word of a whole row.
 use Rattle.std.proofs.Common.{◌≡◌, ℕ, ◌==◌, Bool, ◌+◌, ◌*◌, ◌<◌, ◌^◌, bit_and, refl, sym, ap, ◌∙◌, arith}
 use Rattle.std.specs.Prelude.{◌&&◌, nat_lt}
 use Rattle.std.proofs.lemmas.Bool.{eqb-true, ltb-true, and_parts}
@@ -11,7 +11,7 @@ use Rattle.rv_decode.specs.Table.{row_of}
 use Rattle.rv_decode.specs.Fields.{field, sign_extended, imm_of, instr_in}
 use Rattle.rv_decode.specs.Meaning.{MeansInstr}
 use Rattle.rv_decode.specs.Encodable.{HasRegisters, HasImmediate}
-use Rattle.rv_decode.specs.Encoding.{bits_of, register_bits, immediate_of}
+use Rattle.rv_decode.specs.Encoding.{bits_of, register_bits, immediate_of, word_of}
 use Rattle.rv_decode.proofs.Masks.{opcode_bits, funct3_bits, funct6_bits, funct7_bits, whole_word}
 use Rattle.rv_decode.specs.TableLaws.{each_name}
 use Rattle.rv_decode.proofs.Words.{IsWordOf}
@@ -89,38 +89,34 @@ value-row_of name = eqb-true _ _ (and_parts _ _ (and_parts _ _ (each_name is_sha
 pub value_below : (name : Name) → (row_of name).value < 2 ^ 32
 value_below name = ltb-true _ _ (and_parts _ _ (and_parts _ _ (each_name is_shaped refl name)).1).1
 
--- the encoder's sum
-abbrev pub sum_of : Instr → ℕ
-sum_of i = (row_of i.name).value + register_bits i + immediate_of (row_of i.name).format i.imm
-
 module _ (i : Instr) (registers : HasRegisters (row_of i.name).format i) (imm : HasImmediate (row_of i.name).format i.imm) where
-  is_word : IsWordOf (row_of i.name).format (mask_of (row_of i.name).format) (row_of i.name).value i (sum_of i)
+  is_word : IsWordOf (row_of i.name).format (mask_of (row_of i.name).format) (row_of i.name).value i (word_of i)
   is_word =
       let row = row_of i.name in
-      word_by row.format row.value (sum_of i) i (value_below i.name)
+      word_by row.format row.value (word_of i) i (value_below i.name)
       (ap (bit_and row.value) (sym (mask-row_of i.name)) ∙ value-row_of i.name)
       registers imm refl
 
-  pub sum_below : sum_of i < 2 ^ 32
+  pub sum_below : word_of i < 2 ^ 32
   sum_below = is_word.below
 
-  pub means-sum : MeansInstr (sum_of i) i
+  pub means-sum : MeansInstr (word_of i) i
   means-sum = record {
     name = i.name;
-    fits = ap (bit_and (sum_of i)) (mask-row_of i.name) ∙ is_word.masked;
+    fits = ap (bit_and (word_of i)) (mask-row_of i.name) ∙ is_word.masked;
     is = is_word.fields;
   }
 
 -- a word is the sum of what it means
-pub sum-means : (i : Instr) (word : ℕ) → word < 2 ^ 32 → MeansInstr word i → sum_of i ≡ word
+pub sum-means : (i : Instr) (word : ℕ) → word < 2 ^ 32 → MeansInstr word i → word_of i ≡ word
 sum-means i word below m =
     let row = row_of m.name in
-    ap sum_of m.is
+    ap word_of m.is
     ∙ ap (λ v. v + register_bits (instr_in row.format m.name word) + immediate_of row.format (imm_of row.format word)) (sym m.fits ∙ ap (bit_and word) (mask-row_of m.name))
     ∙ sym (parts_by row.format m.name word below)
 
--- the parts as the encoder computes them
-pub sum-parts : (i : Instr) (row : CaseRow) (a b : ℕ) → row ≡ row_of i.name → a ≡ register_bits i → b ≡ immediate_of row.format i.imm → row.value + a + b ≡ sum_of i
+-- the parts as the encoder adds them
+pub sum-parts : (i : Instr) (row : CaseRow) (a b : ℕ) → row ≡ row_of i.name → a ≡ register_bits i → b ≡ immediate_of row.format i.imm → row.value + a + b ≡ word_of i
 sum-parts i row a b is_row is_a is_b =
     ap (λ x. row.value + x + b) is_a
     ∙ ap (λ x. row.value + register_bits i + x) is_b

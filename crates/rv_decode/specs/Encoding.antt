@@ -4,6 +4,7 @@ use Rattle.rv_decode.specs.declared.instruction.Instr.{Instr}
 use Rattle.rv_decode.specs.declared.names.Format.{Format}
 use Rattle.rv_decode.specs.declared.names.Format.TheVariants.{R, I, S, B, U, J, H6, H5, N}
 use Rattle.rv_decode.specs.Fields.{field}
+use Rattle.rv_decode.specs.Table.{row_of}
 
 -- the two's complement of a number, in `count` bits
 abbrev pub bits_of : ℕ → ℤ → ℕ
@@ -35,3 +36,7 @@ immediate_of H6 imm = bits_of 6 imm * 2 ^ 20
 immediate_of H5 imm = bits_of 5 imm * 2 ^ 20
 immediate_of R imm = 0
 immediate_of N imm = 0
+
+-- the word of an instruction: the bits that its row fixes, the registers' and the immediate's
+abbrev pub word_of : Instr → ℕ
+word_of i = (row_of i.name).value + register_bits i + immediate_of (row_of i.name).format i.imm

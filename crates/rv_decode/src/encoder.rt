@@ -4,7 +4,7 @@ ghost use Rattle.std.specs.Prelude.{◌≡◌, ℕ, ◌-◌, ◌^◌, ◌<◌, �
 ghost use Rattle.rv_decode.specs.Table.{is_base, row_of};
 ghost use Rattle.rv_decode.specs.Meaning.{Means, MeansInstr, meaning};
 ghost use Rattle.rv_decode.specs.Encodable.{IsEncodable, IsSignedBelow, HasImmediate, HasRegisters};
-ghost use Rattle.rv_decode.specs.Encoding.{bits_of, register_bits, immediate_of, store_bits, branch_bits, jump_bits};
+ghost use Rattle.rv_decode.specs.Encoding.{bits_of, register_bits, immediate_of, store_bits, branch_bits, jump_bits, word_of};
 
 use crate::instruction::Instr;
 use crate::names::Format;
@@ -13,6 +13,7 @@ use crate::names::Format;
 /// instruction of again.
 pub fn encode(i: &Instr) -> u32
     requires { IsEncodable i.now }
+    ensures bits { result ≡ word_of i.now }
     ensures meaning { Means is_base result (Some i.now) }
     ensures decoded { meaning result ≡ Some i.now }
     ensures only { (word : ℕ) → word < 2 ^ 32 → Means is_base word (Some i.now) → result ≡ word }
@@ -24,6 +25,7 @@ pub fn encode(i: &Instr) -> u32
 pub fn word_of(i: &Instr) -> u32
     requires registers { HasRegisters (row_of i.now.name).format i.now }
     requires immediate { HasImmediate (row_of i.now.name).format i.now.imm }
+    ensures bits { result ≡ word_of i.now }
     ensures meaning { MeansInstr result i.now }
     ensures only { (word : ℕ) → word < 2 ^ 32 → MeansInstr word i.now → result ≡ word }
 {

@@ -32,3 +32,10 @@ returns-clause-only c = λ word below means.
     let fits : FitsSigned w64 i.imm = search rules in
     let placed = c.immediate.ensures ∙ ap (immediate_of c.row-row.result.format) (to_z-of_z w64 i.imm fits) in
     sum-parts i _ _ _ c.row-row.ensures c.registers.ensures placed ∙ sum-means i word below means
+
+pub returns-clause-bits : goal.returns-clause-bits
+returns-clause-bits c =
+    let i = c.args.i.now in
+    let fits : FitsSigned w64 i.imm = search rules in
+    let placed = c.immediate.ensures ∙ ap (immediate_of c.row-row.result.format) (to_z-of_z w64 i.imm fits) in
+    sum-parts i _ _ _ c.row-row.ensures c.registers.ensures placed

@@ -1,0 +1,12 @@
+pub mod Spelling
+pub mod Fronts
+pub mod Cuts
+pub mod Values
+pub mod Ranges
+pub mod Signs
+pub mod Decimals
+pub mod Operands
+pub mod Rows
+pub mod Soundness
+pub mod TextLines
+pub mod Narrowing

@@ -1,0 +1,6 @@
+pub mod Labelling
+pub mod Coding
+pub mod Reaching
+pub mod Loading
+pub mod Deciding
+pub mod Texts
