@@ -203,7 +203,6 @@ kept_within machine xs numbers index x is found =
         zero_apart : (q : ℕ) → is_number q ≡ true → eqb 0 q ≡ false
         zero_apart q number = let low : 1 ≤ q = grind (arith, nat_tests, number) in ne_eqb 0 q (λ same. omega (arith, low, same))
 
-
 -- The counts, by those of the memory.
 pub counts_are : (machine : Machine) (memory : TranslatedView) (used most own hits misses : ℕ) → memory ≡ machine.memory → used ≡ units (books (state_of memory))
     → most ≡ unit_limit (state_of memory).frames → own ≡ own_lines (books (state_of memory)) → hits ≡ (translations_of memory).hits → misses ≡ (translations_of memory).misses

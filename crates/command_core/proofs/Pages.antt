@@ -40,8 +40,8 @@ use Rattle.command_core.specs.declared.process_changes.ProcessChange.TheVariants
 use Rattle.command_core.specs.State.{Registry}
 use Rattle.command_core.specs.Sessions.{KeepsSession}
 use Rattle.command_core.specs.Rows.{Row, first_refusal}
-use Rattle.command_core.specs.Refusals.{are_too_many, has_page, lacks_page, lie_outside, lowest, map_refusals, place_refusals, unmap_refusals}
-use Rattle.command_core.specs.Mapping.{FindsGap, FindsMapped, RefusesMap, RefusesUnmap}
+use Rattle.command_core.specs.Refusals.{are_too_many, has_page, lie_outside, lowest, map_refusals, place_refusals, unmap_refusals}
+use Rattle.command_core.specs.Mapping.{FindsGap, FindsMapped, RefusesMap, RefusesUnmap, lacks_page}
 use Rattle.command_core.specs.ProcessChanges.{ChangesProcess, process_row, pages_gone, pages_mapped, with_pages}
 use Rattle.command_core.proofs.Rows.{machine_done, machine_refused}
 use Rattle.command_core.proofs.Speculating.{kept_before, kept_by, put_again, saved_here, speculates, stays, wholes_are, wholes_left}

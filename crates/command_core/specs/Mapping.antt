@@ -1,6 +1,7 @@
-use Rattle.std.specs.Prelude.{◌≡◌, ℕ, ◌+◌, ◌/◌, ◌≤◌, Option, Some, None}
+use Rattle.std.specs.Prelude.{◌≡◌, ℕ, ◌+◌, ◌/◌, ◌≤◌, Bool, not, Option, Some, None}
 use Rattle.std.specs.FinMap.{len}
 use Rattle.sizes.specs.declared.TheConstants.{MOST_SPACE_PAGES, PAGE_BYTES, PAGE_END}
+use Rattle.ovl_io.specs.Memory.{Memory}
 use Rattle.overlay_pages.specs.State.{State, memory_of}
 use Rattle.overlay_pages.specs.Changes.{AreAbsent}
 use Rattle.overlay_pages.specs.Calls.{AreMapped}
@@ -8,9 +9,12 @@ use Rattle.space_maps.specs.Spaces.{space_in}
 use Rattle.report_text.specs.declared.answer.Code.{Code}
 use Rattle.report_text.specs.Answers.{HasCodeLine}
 use Rattle.command_core.specs.Rows.{first_refusal}
-use Rattle.command_core.specs.Refusals.{has_page, lacks_page, lowest, map_refusals, unmap_refusals}
+use Rattle.command_core.specs.Refusals.{has_page, lowest, map_refusals, unmap_refusals}
 
 -- Whether pages of a space can be mapped, or given up.
+
+abbrev pub lacks_page : Memory → ℕ → Bool
+lacks_page memory page = not (has_page memory page)
 
 -- the lowest of the n pages from one on that is there, or that all are absent; and the lowest that isn't there
 abbrev pub FindsMapped : State → ℕ → ℕ → ℕ → Option ℕ → Type 0

@@ -34,15 +34,12 @@ lowest holds from (suc n) = if holds from then Some from else lowest holds (from
 abbrev pub has_page : Memory → ℕ → Bool
 has_page memory page = is_some (get memory page)
 
-abbrev pub lacks_page : Memory → ℕ → Bool
-lacks_page memory page = not (has_page memory page)
-
 -- one of the n pages from an address on is there already, or isn't there: the address of the lowest
 abbrev pub by_mapped : ℕ → ℕ → Memory → Option Code
 by_mapped address n memory = option_map (λ page. Mapped (PAGE_BYTES * page)) (lowest (has_page memory) (address / PAGE_BYTES) n)
 
 abbrev pub by_missing : ℕ → ℕ → Memory → Option Code
-by_missing address n memory = option_map (λ page. Unmapped (PAGE_BYTES * page)) (lowest (lacks_page memory) (address / PAGE_BYTES) n)
+by_missing address n memory = option_map (λ page. Unmapped (PAGE_BYTES * page)) (lowest (λ page. not (has_page memory page)) (address / PAGE_BYTES) n)
 
 -- why pages aren't mapped, and why they aren't given up
 abbrev pub place_refusals : Bool → Bool → Option Code → List (Option Code)

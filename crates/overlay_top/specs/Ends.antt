@@ -72,14 +72,12 @@ pub data EndsMade {K : Type 0} (k : SinkOf K) (outcome : RunOutcome) (old new : 
   MadeOutOfMemory : (j begun : ℕ) → j ≤ length outcome.passages → MayLackMemory outcome j begun → SinkSound k old new
       → Reported k old (first_report j outcome) new → EndsMade k outcome old new NoMemory
 
--- source and shelf are as they were, their faults too, and no file was asked for
-abbrev pub IsUnasked : {S H K : Type 0} → World S H K → World S H K → Type 0
-IsUnasked old new = (new.script ≡ old.script) × (new.files ≡ old.files)
-
--- how a call may end, by what it asks of the outside
+-- How a call may end, by what it asks of the outside. Of nothing, source and shelf are as they were, their faults too, and no file was
+-- asked for.
 abbrev pub EndsAs : {S H K : Type 0} → SourceOf S → ShelfOf H → SinkOf K → RunOutcome → Asking → World S H K → World S H K → Status → Type 0
 EndsAs s h k outcome (OfOutside names) old new status = Ends s h k outcome names old new status
-EndsAs s h k outcome OfNothing old new status = IsUnasked old new × EndsMade k outcome old.report new.report status
+EndsAs s h k outcome OfNothing old new status =
+    ((new.script ≡ old.script) × (new.files ≡ old.files)) × EndsMade k outcome old.report new.report status
 
 -- the same, of the number that the call answers
 abbrev pub EndsWith : {S H K : Type 0} → SourceOf S → ShelfOf H → SinkOf K → RunOutcome → Asking → World S H K → World S H K → ℕ → Type 0
@@ -120,7 +118,7 @@ TakesAt s h old new BadWords = s.left new.script ≡ s.left old.script
 
 abbrev pub TakesAs : {S H K : Type 0} → SourceOf S → ShelfOf H → Asking → World S H K → World S H K → Status → Type 0
 TakesAs s h (OfOutside names) old new status = TakesAt s h old new status
-TakesAs s h OfNothing old new status = IsUnasked old new
+TakesAs s h OfNothing old new status = (new.script ≡ old.script) × (new.files ≡ old.files)
 
 abbrev pub TakesWith : {S H K : Type 0} → SourceOf S → ShelfOf H → Asking → World S H K → World S H K → ℕ → Type 0
 TakesWith s h asking old new number = (status : Status) × (number ≡ code_of status) × TakesAs s h asking old new status

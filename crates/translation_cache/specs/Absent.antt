@@ -6,7 +6,7 @@ use Rattle.ovl_io.specs.Memory.{Access, Memory, denied_at}
 use Rattle.ovl_io.specs.PageBytes.{page_allows}
 use Rattle.translation_cache.specs.Bare.{BareTranslations}
 use Rattle.translation_cache.specs.Counted.{access_translated, counted, pages_under, translated, translated_pages}
-use Rattle.translation_cache.specs.Translations.{Entry, entered, entry_of, flushed, found, is_of, looked, looked_by, no_translations, put_first, set_of, with_hits, with_misses, with_set, without, without_space}
+use Rattle.translation_cache.specs.Translations.{Entry, entered, entry_of, flushed, found, is_of, looked, looked_by, no_translations, set_of, with_hits, with_misses, with_set, without, without_space}
 use Rattle.translation_cache.specs.declared.TheConstants.{SETS, SET_ENTRIES}
 
 -- Spaces of which nothing is in the lists.
@@ -107,7 +107,7 @@ module _ (q : ℕ) where
     none_entered : (page : ℕ) (t : BareTranslations) → HasNone q t → HasNone q (entered space page tt t)
     unfolding entered
     none_entered page t none =
-        lacks_set t.sets (page % SETS) (put_first (entry_of space page tt) (set_of page t)) none
+        lacks_set t.sets (page % SETS) (take SET_ENTRIES (entry_of space page tt ∷ set_of page t)) none
         (lacks_taken SET_ENTRIES (entry_of space page tt ∷ set_of page t) (lacks_entry page (set_of page t) (lacks_at t.sets (page % SETS) none)))
 
     none_translated : (memory : Memory) (page : ℕ) (t : BareTranslations) → HasNone q t → HasNone q (translated space memory page t)

@@ -13,9 +13,11 @@ use Rattle.command_core.proofs.Breaks.{breaks_kept}
 use Rattle.command_core.proofs.session.Session.poke.Goals as goal
 
 pub invariant_of-self : goal.invariant_of-self
-invariant_of-self c =
-    (c.poke.ensures.done.keeps.session (spaces_kept c.self.inside.checkpoints) c.self.inside.numbers c.self.invariant.0, c.self.invariant.1,
-    breaks_kept c.self.inside.machine c.poke.new.machine c.self.inside.breakpoints c.poke.ensures.done.keeps.stay c.self.invariant.2)
+invariant_of-self c = (
+  c.poke.ensures.done.keeps.session (spaces_kept c.self.inside.checkpoints) c.self.inside.numbers c.self.invariant.0,
+  c.self.invariant.1,
+  breaks_kept c.self.inside.machine c.poke.new.machine c.self.inside.breakpoints c.poke.ensures.done.keeps.stay c.self.invariant.2,
+)
 
 pub returns-in-Some-clause-gives : goal.returns-in-Some-clause-gives
 returns-in-Some-clause-gives c =
