@@ -256,7 +256,6 @@ fn store_brought(
     requires none_awaits { NoneAwaits (state_of pages.old) space }
     requires held { AreTrue (state_of pages.old) cache.old }
     requires fronts { AreFronts pages.old (bare cache.old) fronts.old }
-    requires small { AreOverlaysSmall (state_of pages.old) }
     ensures stores { Stores pages.old pages.new space address bytes.now (result_at address result) }
     ensures held { AreTrue (state_of pages.new) cache.new }
     ensures lists { bare cache.new ≡ bare cache.old }
@@ -304,7 +303,6 @@ fn store_apart(
     requires none_awaits { NoneAwaits (state_of pages.old) space }
     requires held { AreTrue (state_of pages.old) cache.old }
     requires fronts { AreFronts pages.old (bare cache.old) fronts.old }
-    requires small { AreOverlaysSmall (state_of pages.old) }
     ensures stores { Stores pages.old pages.new space address bytes.now (result_at address result) }
     ensures held { AreTrue (state_of pages.new) cache.new }
     ensures lists { bare cache.new ≡ bare cache.old }
