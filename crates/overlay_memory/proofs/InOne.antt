@@ -22,8 +22,6 @@ use Rattle.overlay_memory.specs.Access.{FitsStored, IsAllowed, IsStored, Stores,
 use Rattle.overlay_memory.specs.Pieces.{AreWritable, ComesToBeLarge, IsFilled, IsPermitted, Settles, lines_under}
 use Rattle.overlay_memory.specs.Room.{IsShort}
 use Rattle.overlay_memory.specs.View.{AreOverlaysSmall, NoneAwaits}
-use Rattle.overlay_memory.specs.CountLaws.{has_lines}
-use Rattle.overlay_memory.specs.SmallLaws.{few_not_large, large_is}
 use Rattle.overlay_memory.specs.StateMemory.{still_there}
 use Rattle.overlay_memory.proofs.Bringing.{HasBrought, brought_none, brought_one, brought_writable, joined_books, joins_nothing}
 use Rattle.overlay_memory.proofs.Fronting.{at_address, may_be_used, of_address, own_there}

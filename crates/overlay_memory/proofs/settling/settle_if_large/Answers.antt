@@ -1,7 +1,7 @@
 use Rattle.std.proofs.Common.{sym, ◌∙◌}
 use Rattle.overlay_pages.specs.View.{state_of}
 use Rattle.overlay_memory.specs.Joined.{units_fit}
-use Rattle.overlay_memory.proofs.Settled.{settle_overlaid, settle_room, settle_shared, settles_so}
+use Rattle.overlay_memory.proofs.Settled.{settle_overlaid, settle_room, settle_shared}
 use Rattle.overlay_memory.proofs.settling.settle_if_large.Goals as goal
 
 pub settle-requires-clause-overlaid : goal.settle-requires-clause-overlaid
