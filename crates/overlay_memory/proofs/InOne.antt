@@ -5,30 +5,30 @@ use Rattle.ovl_io.specs.Permissions.{permits, writable}
 use Rattle.overlay_bits.specs.Lines.{has_line}
 use Rattle.ledger.specs.Alike.{AreAlike}
 use Rattle.ledger.specs.AlikeLaws.{alike_itself}
-use Rattle.ledger.specs.Changes.{is_large}
+use Rattle.std.specs.Option.{option_map}
+use Rattle.overlay_memory.specs.PageLaws.{some_is}
+use Rattle.ledger.specs.Changes.{is_large, with_lines}
 use Rattle.ledger.specs.Events.{Store, ledger_after}
 use Rattle.ledger.specs.Ledger.{Ledger}
 use Rattle.ledger.specs.Units.{units}
 use Rattle.overlay_pages.specs.State.{PageState, State, books}
-use Rattle.overlay_pages.specs.Changes.{Fits, is_writable, limit_of, units_of, with_brought}
+use Rattle.overlay_pages.specs.Changes.{Fits, HasCopyRoom, is_writable, limit_of, units_of, with_brought}
 use Rattle.overlay_pages.specs.Spots.{IsBroughtTo, IsFoundPageAt}
 use Rattle.overlay_pages.specs.View.{IsJoined, MemoryView, state_of}
 use Rattle.overlay_pages.specs.declared.spots.FoundPage.{FoundPage}
 use Rattle.overlay_memory.specs.declared.error.MemoryError.TheVariants.{Full}
 use Rattle.overlay_memory.specs.declared.error.Shortage.{Shortage}
 use Rattle.overlay_memory.specs.Access.{FitsStored, IsAllowed, IsStored, Stores, stored_books}
-use Rattle.overlay_memory.specs.Pieces.{AreWritable, IsFilled, IsPermitted, Settles, lines_under}
+use Rattle.overlay_memory.specs.Pieces.{AreWritable, ComesToBeLarge, IsFilled, IsPermitted, Settles, lines_under}
 use Rattle.overlay_memory.specs.Room.{IsShort}
 use Rattle.overlay_memory.specs.View.{AreOverlaysSmall, NoneAwaits}
-use Rattle.overlay_memory.specs.CountLaws.{has_lines}
-use Rattle.overlay_memory.specs.SmallLaws.{few_not_large, large_is}
 use Rattle.overlay_memory.specs.StateMemory.{still_there}
 use Rattle.overlay_memory.proofs.Bringing.{HasBrought, brought_none, brought_one, brought_writable, joined_books, joins_nothing}
 use Rattle.overlay_memory.proofs.Fronting.{at_address, may_be_used, of_address, own_there}
 use Rattle.overlay_memory.proofs.Joining.{has_under, one_under}
 use Rattle.overlay_memory.proofs.Pieced.{permitted}
-use Rattle.overlay_memory.proofs.Settled.{has_settled, row, row_units, settled_none, settled_row, settles_later, settles_none}
-use Rattle.overlay_memory.proofs.Stored.{IsDone, full_store, stored_by}
+use Rattle.overlay_memory.proofs.Settled.{IsPlacedAnew, first_room, first_row, first_settled, has_settled, joined_few, joined_small, row, row_units, settled_none, settled_row, settles_later, settles_none}
+use Rattle.overlay_memory.proofs.Stored.{IsDone, full_store, stored_by, stored_first}
 use Rattle.overlay_memory.proofs.Touching.{touched_one}
 use Rattle.overlay_memory.proofs.Views.{own_set}
 use Rattle.space_maps.specs.Options.{by_test}
@@ -120,6 +120,17 @@ module _ {v : State} {s address : ℕ} {lines bytes : List ℕ} (it : IsInOne v 
       ∙ brought_writable v s page lines it.page it.there line
       (ap (λ l. has_line l line) it.under ∙ has_under (address % 4096) (length bytes) line it.some low high)
 
+  -- The page was settled first, and then bytes were put.
+  pub one_room : FitsStored v s address (length bytes) → ComesToBeLarge v s page lines → HasCopyRoom v s page
+  one_room room is = first_room v s page lines is (let same = ap units row_is in omega (arith, same, room))
+
+  pub one_anew : (c d : State) → ComesToBeLarge v s page lines → IsPlacedAnew v c s page → IsFilled c d s (PAGE_BYTES * page + address % PAGE_BYTES) bytes
+      → IsStored v d s address bytes
+  one_anew c d is anew filled =
+      let place : 4096 * page + address % 4096 ≡ address = omega arith in
+      stored_first v c d s address bytes after it.some row_is is.off (first_settled v c s page lines is anew)
+      (subst (λ a. IsFilled c d s a bytes) place filled) (first_row v c s page lines is anew)
+
   -- bytes were put then
   module _ (b c : State) (b_is : b ≡ brought) (filled : IsFilled b c s (PAGE_BYTES * page + address % PAGE_BYTES) bytes) where
     put : IsFilled brought c s address bytes
@@ -180,6 +191,16 @@ module _ {view : MemoryView} {s address line : ℕ} {page : FoundPage} {bytes : 
   line_full needed limit shortage are limit_is short =
       full_store view s address needed bytes shortage allowed (needs needed are) (subst (λ n. IsShort needed n shortage) limit_is short)
 
+  -- the same, of the whole store
+  pub line_room : (needed limit : ℕ) → AreUnits needed → limit ≡ limit_of (state_of view) → needed ≤ limit → FitsStored (state_of view) s address (length bytes)
+  line_room needed limit are limit_is room = let needed_is = needs needed are in omega (arith, needed_is, room, limit_is)
+
+  pub line_here : IsSome (page_in (state_of view) s (address / PAGE_BYTES))
+  line_here = ap is_some it.one.there
+
+  pub line_allowed : IsAllowed (state_of view) s writable address (length bytes)
+  line_allowed = allowed
+
   pub line_fits : (needed limit : ℕ) → AreUnits needed → limit ≡ limit_of (state_of view) → needed ≤ limit → Fits (with_brought (state_of view) page.space page.page (line ∷ []))
   line_fits needed limit are limit_is room =
       of_address view s address page it.at line it.line_is (λ q r i. Fits (with_brought (state_of view) q r (i ∷ [])))
@@ -218,18 +239,30 @@ module _ {view : MemoryView} {s address line : ℕ} {page : FoundPage} {bytes : 
   pub brought_at : (mid : MemoryView) (found : FoundPage) → IsBroughtTo view.table mid.table page line found → IsFoundPageAt mid s (address / PAGE_BYTES) found
   brought_at mid found to = record { space_is = to.space_is ∙ it.at.space_is; page_is = to.page_is ∙ it.at.page_is; is = to.is }
 
-  -- Where the overlay didn't grow, its page isn't to be settled.
-  module _ (small : AreOverlaysSmall (state_of view)) (mid : MemoryView) (found : FoundPage) (to : IsBroughtTo view.table mid.table page line found)
-      (mid_is : state_of mid ≡ with_brought (state_of view) page.space page.page (line ∷ [])) (c : State)
-      (filled : IsFilled (state_of mid) c s (PAGE_BYTES * (address / PAGE_BYTES) + (LINE_BYTES * (address / LINE_BYTES % PAGE_LINES) + address % LINE_BYTES)) bytes) where
-    few_before : (space_in c s).speculating ≡ false → length page.own ≤ 31
-    few_before off =
-        let h = has_lines (state_of view) s (address / PAGE_BYTES) page.own (own_there view s (address / PAGE_BYTES) page it.at) in
-        subst (λ (l : List ℕ). length l ≤ 31) h.own_is (small s (address / PAGE_BYTES) h.x h.there (sym (mark (state_of mid) mid_is c filled) ∙ off))
+  -- Its page isn't to be settled, where it has at most 31 own lines then or its space is speculating.
+  module _ (few : (space_in (state_of view) s).speculating ≡ false → length page.own < 31) (mid : State)
+      (mid_is : mid ≡ with_brought (state_of view) page.space page.page (line ∷ [])) (c : State)
+      (filled : IsFilled mid c s (PAGE_BYTES * (address / PAGE_BYTES) + (LINE_BYTES * (address / LINE_BYTES % PAGE_LINES) + address % LINE_BYTES)) bytes) where
+    abbrev v : State
+    v = state_of view
 
-    pub line_stays : Settles c c s (address / PAGE_BYTES)
-    line_stays = by_test (space_in c s).speculating (settles_later c s (address / PAGE_BYTES)) (λ off.
-        settles_none c s (address / PAGE_BYTES)
-        (ap (λ l. is_large l s (address / PAGE_BYTES)) filled.ledger
-        ∙ large_is (state_of mid) s (address / PAGE_BYTES) found.own (length found.own) (own_there mid s (address / PAGE_BYTES) found (brought_at mid found to)) refl
-        ∙ few_not_large (length found.own) (to.small (few_before off))))
+    abbrev p : ℕ
+    p = address / PAGE_BYTES
+
+    abbrev i : ℕ
+    i = address / LINE_BYTES % PAGE_LINES
+
+    own_is : it.one.page.own ≡ page.own
+    own_is = some_is it.one.page.own page.own (sym (ap (option_map (λ (x : PageState). x.own)) it.one.there) ∙ own_there view s p page it.at)
+
+    count : (space_in v s).speculating ≡ false → length (with_lines it.one.page.own (i ∷ [])) ≤ 31
+    count off = joined_few it.one.page.own i (own_set view s p it.one.page it.may.joined it.one.there) (omega arith) (let less = few off in omega (arith, ap length own_is, less))
+
+    pub line_stays : Settles c c s p
+    line_stays = by_test (space_in c s).speculating (settles_later c s p) (λ off.
+        settles_none c s p
+        (ap (λ l. is_large l s p) (filled.ledger ∙ ap books (here mid mid_is) ∙ (brought_one v s p (i ∷ []) it.one.page it.one.there).ledger)
+        ∙ joined_small v s p (i ∷ []) it.one.page it.one.there (none_large_before off) (count (sym (mark mid mid_is c filled) ∙ off))))
+      where
+        none_large_before : (space_in c s).speculating ≡ false → length it.one.page.own ≤ 31
+        none_large_before off = let less = few (sym (mark mid mid_is c filled) ∙ off) in omega (arith, ap length own_is, less)

@@ -1,4 +1,4 @@
-use Rattle.std.proofs.Common.{◌≡◌, ℕ, ◌+◌, ◌<◌, ◌≤◌, Bool, true, false, cond, not, ◌&&◌, List, [], ◌∷◌, length, Option, Some, None, is_some, refl, sym, ap, subst, ◌∙◌, arith}
+use Rattle.std.proofs.Common.{◌≡◌, ℕ, zero, suc, ◌+◌, ◌<◌, ◌≤◌, Bool, true, false, cond, not, ◌&&◌, List, [], ◌∷◌, length, Option, Some, None, is_some, refl, sym, ap, subst, ◌∙◌, arith}
 use Rattle.std.specs.Prelude.{IfSome, IsSome, nat_le}
 use Rattle.std.proofs.lemmas.Bool.{and_parts}
 use Rattle.std.proofs.lemmas.Bool.Decides.{nat_tests}
@@ -7,19 +7,28 @@ use Rattle.std.specs.FinMap.{get}
 use Rattle.ledger.specs.Alike.{AreAlike}
 use Rattle.ledger.specs.AlikeLaws.{alike_altered, alike_itself}
 use Rattle.ledger.specs.AloneLaws.{arent, unused_without}
-use Rattle.ledger.specs.Changes.{is_large, joined, settled, without_own}
+use Rattle.ledger.specs.Changes.{is_large, joined, settled, with_line, with_lines, without_own}
 use Rattle.ledger.specs.ClassLaws.{class_many}
 use Rattle.ledger.specs.Events.{Store, ledger_after}
 use Rattle.ledger.specs.Ledger.{Ledger, is_alone, with_page}
 use Rattle.ledger.specs.RowLaws.{settled_new}
-use Rattle.ledger.specs.StoreLaws.{joined_alone, large_there, store_joins, store_nothing, stored_settles, units_joined, units_store}
+use Rattle.ledger.specs.StoreLaws.{joined_alone, joined_there, large_there, store_joins, store_nothing, stored_new, stored_settles, units_joined, units_store}
 use Rattle.ledger.specs.Units.{units}
 use Rattle.overlay_pages.specs.State.{PageState, State, base_of, books, held_page, memory_of}
-use Rattle.overlay_pages.specs.Changes.{Fits, HasCopyRoom, IsPlaced, copied, writes_frame}
+use Rattle.sizes.specs.declared.TheConstants.{PAGE_LINES}
+use Rattle.overlay_bits.specs.Laws.{count_with}
+use Rattle.overlay_bits.specs.Lines as bits
+use Rattle.overlay_bits.specs.Lines.{AreLines, has_line}
+use Rattle.ledger.specs.Ledger.{Holding, is_unused}
+use Rattle.ledger.specs.PlaceLaws.{gone_over, put_here}
+use Rattle.ledger.specs.UnitLaws.{alone_is}
+use Rattle.space_ledger.specs.Joined.{joined_same, put_same}
+use Rattle.overlay_memory.specs.CountLaws.{has_lines}
+use Rattle.overlay_pages.specs.Changes.{Fits, HasCopyRoom, IsPlaced, copied, is_writable, limit_of, writes_frame}
 use Rattle.overlay_memory.specs.PageLaws.{has_page, held_there}
-use Rattle.overlay_memory.specs.Pieces.{KeepsAllElse, Settles, is_to_settle}
+use Rattle.overlay_memory.specs.Pieces.{ComesToBeLarge, KeepsAllElse, Settles, is_to_settle}
 use Rattle.overlay_memory.specs.SmallLaws.{few_not_large, large_is}
-use Rattle.overlay_memory.specs.StateMemory.{base_beside, beside_put, beside_same, memory_kept}
+use Rattle.overlay_memory.specs.StateMemory.{base_beside, beside_put, beside_same, memory_kept, writable_at}
 use Rattle.overlay_memory.proofs.Bringing.{joined_books}
 use Rattle.space_maps.specs.Books.{books_put_page}
 use Rattle.space_maps.specs.Options.{by_test}
@@ -75,17 +84,21 @@ off_where v s p is = at (is_large (books v) s p) (space_in v s).speculating (not
     at true true c h = cc
     at false b c h = cc
 
-pub has_settled : (old new : State) (s p : ℕ) → Settles old new s p → IsSome (page_in old s p) → HasSettled old new s p
-has_settled old new s p settles some = settle_ways (λ v. HasSettled old v s p) old new s p settles some
-    (λ no_. settled_none old s p)
-    (λ yes_ anew.
+-- where it was placed in a new frame
+anew_kept : (old new : State) (s p : ℕ) → (space_in old s).speculating ≡ false → IsPlacedAnew old new s p → HasSettled old new s p
+anew_kept old new s p off anew =
     let y : PageState = copied anew.placed.frame anew.x in
     subst (λ v. HasSettled old v s p) (sym anew.placed.placed) (record {
       memory = memory_kept old s p y anew.x anew.there refl;
-      base = λ on. let off = off_where old s p yes_ in cc;
+      base = λ on. cc;
       bases = λ r other. base_beside old s p y r other;
       beside = beside_put old s p y anew.x anew.there refl;
-    }))
+    })
+
+pub has_settled : (old new : State) (s p : ℕ) → Settles old new s p → IsSome (page_in old s p) → HasSettled old new s p
+has_settled old new s p settles some = settle_ways (λ v. HasSettled old v s p) old new s p settles some
+    (λ no_. settled_none old s p)
+    (λ yes_ anew. anew_kept old new s p (off_where old s p yes_) anew)
 
 -- The ledger: that after the store, where its lines joined before.
 
@@ -256,3 +269,98 @@ replaced_true old new s p anew t u c formed is here entries q r held found_now =
     is_c : (o : Option Cached) → option_map (λ _. c) o ≡ Some held → Some c ≡ Some held
     is_c None none = let no = ap is_some none in cc
     is_c (Some x) same = same
+
+-- A page that is settled first: bytes go into its frame then, and the ledger is that after the store.
+
+pub comes_large : (v : State) (s p n m : ℕ) (own lines both : List ℕ) (alone : Bool) → option_map (λ (x : PageState). x.own) (page_in v s p) ≡ Some own → n ≡ length own
+    → (n ≡ 0 → ⊥) → AreLines own × AreLines lines → both ≡ bits.with_lines own lines → m ≡ length both → 32 ≤ m → (space_in v s).speculating ≡ false
+    → alone ≡ is_alone (books v) s p → not alone ≡ true → ComesToBeLarge v s p lines
+comes_large v s p n m own lines both alone is count some are union size many off frame shared =
+    let h = has_lines v s p own is in record {
+      off = off;
+      shared = sym frame ∙ wasnt alone shared;
+      overlaid = subst (λ o. IfSome o (λ (x : PageState). 0 < length x.own)) (sym h.there) (subst (λ (l : List ℕ). 0 < length l) (sym h.own_is) (above n count some));
+      many = subst (λ o. IfSome o (λ (x : PageState). 32 ≤ length (with_lines x.own lines))) (sym h.there)
+          (subst (λ (l : List ℕ). 32 ≤ length (with_lines l lines)) (sym h.own_is)
+          (subst (λ (l : List ℕ). 32 ≤ length l) (union ∙ joined_same own lines are.0 are.1) (omega (arith, size, many))));
+    }
+  where
+    wasnt : (b : Bool) → not b ≡ true → b ≡ false
+    wasnt true h = cc
+    wasnt false h = refl
+
+    above : (n : ℕ) → n ≡ length own → (n ≡ 0 → ⊥) → 0 < length own
+    above zero count some = absurd (some refl)
+    above (suc n) count some = omega (arith, count)
+
+module _ (v c : State) (s p : ℕ) (lines : List ℕ) (is : ComesToBeLarge v s p lines) (anew : IsPlacedAnew v c s p) where
+  pub first_settled : HasSettled v c s p
+  first_settled = anew_kept v c s p is.off anew
+
+  first_many : nat_le 32 (length (with_lines anew.x.own lines)) ≡ true
+  first_many = at (length (with_lines anew.x.own lines)) (subst (λ o. IfSome o (λ (x : PageState). 32 ≤ length (with_lines x.own lines))) anew.there is.many)
+    where
+      at : (n : ℕ) → 32 ≤ n → nat_le 32 n ≡ true
+      at n many = grind (arith, nat_tests)
+
+  -- it is alone then
+  first_frame : writes_frame c s p ≡ true
+  first_frame =
+      ap (λ b. not b && is_alone (books c) s p) (first_settled.beside.mark ∙ is.off)
+      ∙ ap (λ (l : Ledger). is_alone l s p) (placed_books v c s p anew)
+      ∙ alone_is (with_page (books v) s p y) s p y (put_here (books v) s p y s p refl refl)
+      ∙ ap (λ (l : Ledger). is_unused l (anew.placed.frame + 1)) (gone_over (books v) s p y)
+      ∙ unused_without (books v) s p (anew.placed.frame + 1) anew.placed.fresh.unused
+    where
+      y : Holding
+      y = without_own (anew.placed.frame + 1)
+
+  pub first_writable : (line : ℕ) → is_writable c s p line ≡ true
+  first_writable line =
+      writable_at c s p line (copied anew.placed.frame anew.x)
+      (ap (λ w. page_in w s p) anew.placed.placed ∙ page_put_here v s p (copied anew.placed.frame anew.x) s p refl refl) ∙ first_frame
+
+  pub first_row : AreAlike (books c) (ledger_after (Store (space_in v s).speculating s ((p, lines) ∷ [])) (books v))
+  first_row =
+      subst (λ l. AreAlike l (ledger_after (Store (space_in v s).speculating s ((p, lines) ∷ [])) (books v))) (sym (placed_books v c s p anew))
+      (subst (λ b. AreAlike (with_page (books v) s p (without_own (anew.placed.frame + 1))) (ledger_after (Store b s ((p, lines) ∷ [])) (books v))) (sym is.off)
+      (alike_altered _ _
+      (stored_new (books v) (books v) (books v) (alike_itself (books v)) s p lines (held_page v.zero_frame anew.x) (anew.placed.frame + 1) (held_there v s p anew.x anew.there)
+      is.shared first_many (unused_without (books v) s p (anew.placed.frame + 1) anew.placed.fresh.unused))))
+
+-- there is room for it where there is for the store
+pub first_room : (v : State) (s p : ℕ) (lines : List ℕ) → ComesToBeLarge v s p lines
+    → units (ledger_after (Store (space_in v s).speculating s ((p, lines) ∷ [])) (books v)) ≤ limit_of v → HasCopyRoom v s p
+first_room v s p lines is fits x there =
+    let stored = units_store (space_in v s).speculating (books v) s p lines (held_page v.zero_frame x) (held_there v s p x there)
+    (ap (λ b. not (space_in v s).speculating && b) is.shared ∙ none (space_in v s).speculating) in
+    let full = class_many (length (with_lines x.own lines)) (subst (λ o. IfSome o (λ (x : PageState). 32 ≤ length (with_lines x.own lines))) there is.many) in
+    omega (arith, stored, full, fits)
+  where
+    none : (b : Bool) → (not b && false) ≡ false
+    none true = refl
+    none false = refl
+
+-- A page to which lines were joined isn't large where its own lines are few then.
+pub joined_small : (v : State) (s p : ℕ) (lines : List ℕ) (x : PageState) → page_in v s p ≡ Some x → length x.own ≤ 31 → length (with_lines x.own lines) ≤ 31
+    → is_large (joined_books v s p lines) s p ≡ false
+joined_small v s p lines x there before after = by_test (writes_frame v s p)
+    (λ frame.
+    ap (λ l. is_large l s p) (in_frame v s p lines x there frame)
+    ∙ large_there (books v) s p (held_page v.zero_frame x) (held_there v s p x there) ∙ few_not_large (length x.own) before)
+    (λ apart.
+    ap (λ l. is_large l s p) (in_overlay v s p lines x there apart ∙ joined_there (books v) s p lines (held_page v.zero_frame x) (held_there v s p x there))
+    ∙ large_there (with_page (books v) s p y) s p y (put_here (books v) s p y s p refl refl) ∙ few_not_large (length (with_lines x.own lines)) after)
+  where
+    y : Holding
+    y = record { origin = (held_page v.zero_frame x).origin; own = with_lines x.own lines }
+
+-- one line more
+pub joined_few : (own : List ℕ) (line : ℕ) → AreLines own → line < PAGE_LINES → length own < 31 → length (with_lines own (line ∷ [])) ≤ 31
+unfolding with_lines
+joined_few own line are low few =
+    let one = ap length (sym (put_same own line are low)) ∙ count_with own line are low in by_line (has_line own line) one
+  where
+    by_line : (b : Bool) → length (with_line own line) ≡ length own + cond b 0 1 → length (with_line own line) ≤ 31
+    by_line true one = omega (arith, one, few)
+    by_line false one = omega (arith, one, few)

@@ -21,6 +21,7 @@ use Rattle.overlay_memory.specs.Access.{IsAllowed, IsForbiddenAt, IsStored, IsUn
 use Rattle.overlay_memory.specs.Pieces.{IsFilled, came_of, result_at}
 use Rattle.overlay_memory.specs.Room.{IsShort}
 use Rattle.overlay_memory.specs.StateMemory.{beside_both}
+use Rattle.space_maps.specs.Spaces.{space_in}
 use Rattle.overlay_memory.proofs.Bringing.{HasBrought}
 use Rattle.overlay_memory.proofs.Settled.{HasSettled}
 use Rattle.overlay_memory.proofs.Filling.{behind_untouched, front_untouched}
@@ -62,6 +63,26 @@ stored_by a b c d s address bytes joined row some row_is one two last alike =
       ledger = subst (AreAlike (books d)) (sym row_is) alike;
       base = λ on. last.base (two.beside.mark ∙ one.beside.mark ∙ on) ∙ two.base (one.beside.mark ∙ on) ∙ one.base;
       bases = λ page far. last.bases page (λ same. let here : address + 0 ≡ address = omega arith in far 0 some (ap (λ a. a / PAGE_BYTES) here ∙ sym same)) ∙ two.bases page far ∙ ap (λ m. get m page) one.base;
+      permissions = beside.permissions;
+      awaiting = beside.awaiting;
+      mark = beside.mark;
+      others = beside.others;
+      spaces = beside.spaces;
+      frames = beside.frames;
+      zero_frame = beside.zero_frame;
+    }
+
+-- the page was settled, and then bytes were put
+pub stored_first : (a c d : State) (s address : ℕ) (bytes : List ℕ) (row : Ledger) → 0 < length bytes → stored_books a s address (length bytes) ≡ row
+    → (space_in a s).speculating ≡ false → HasSettled a c s (address / PAGE_BYTES) → IsFilled c d s address bytes → AreAlike (books c) row → IsStored a d s address bytes
+stored_first a c d s address bytes row some row_is off first put alike =
+    let beside = beside_both a c d s first.beside put.beside in
+    record {
+      memory = put.memory ∙ ap (λ m. with_bytes m address bytes) first.memory;
+      ledger = subst (λ l. AreAlike l (stored_books a s address (length bytes))) (sym put.ledger) (subst (AreAlike (books c)) (sym row_is) alike);
+      base = λ on. cc;
+      bases = λ page far. put.bases page far
+          ∙ first.bases page (λ same. let here : address + 0 ≡ address = omega arith in far 0 some (ap (λ a. a / PAGE_BYTES) here ∙ sym same));
       permissions = beside.permissions;
       awaiting = beside.awaiting;
       mark = beside.mark;

@@ -167,9 +167,12 @@ added_translated old new s t is absent all = same_translated (put_space old s ba
       (λ q other. ap (λ (x : SpaceState). x.awaiting) (space_beside old s bare_space q other))
       (λ q r other. page_added old s absent q r)
       (λ r there. none_awaits (put_space old s bare_space) s (ap (λ (x : SpaceState). x.awaiting) (space_put old s bare_space s refl)) r);
-  small = small_by old (put_space old s bare_space) all.small (λ q r x there off. inr (sym (page_added old s absent q r) ∙ there, by_key q s
-      (λ same. ap (λ n. (space_in old n).speculating) same ∙ ap (λ (y : SpaceState). y.speculating) (space_absent old s (none_by (get old.spaces s) absent)))
-      (λ other. ap (λ (y : SpaceState). y.speculating) (sym (space_beside old s bare_space q other)) ∙ off)));
+  small = small_by old (put_space old s bare_space) all.small (λ q r x there off. inr (
+    sym (page_added old s absent q r) ∙ there,
+    by_key q s
+        (λ same. ap (λ n. (space_in old n).speculating) same ∙ ap (λ (y : SpaceState). y.speculating) (space_absent old s (none_by (get old.spaces s) absent)))
+        (λ other. ap (λ (y : SpaceState). y.speculating) (sym (space_beside old s bare_space q other)) ∙ off),
+  ));
 })
 
 -- a space gone, and one without its pages
@@ -207,8 +210,10 @@ emptied_translated old new s t is all = same_translated (put_space old s (of_pag
   small = small_by old (put_space old s (of_pages (space_in old s) empty)) all.small (λ q r x there off. by_key q s
       (λ same. absurd (no_page r (ap is_some (sym (ap (λ n. page_in (put_space old s (of_pages (space_in old s) empty)) n r) same) ∙ there))))
       (λ other.
-      inr (sym (page_beside (of_pages (space_in old s) empty) q r other) ∙ there,
-      ap (λ (y : SpaceState). y.speculating) (sym (space_beside old s (of_pages (space_in old s) empty) q other)) ∙ off)));
+      inr (
+        sym (page_beside (of_pages (space_in old s) empty) q r other) ∙ there,
+        ap (λ (y : SpaceState). y.speculating) (sym (space_beside old s (of_pages (space_in old s) empty) q other)) ∙ off,
+      )));
 })
   where
     page_beside : (y : SpaceState) (q r : ℕ) → (q ≡ s → ⊥) → page_in (put_space old s y) q r ≡ page_in old q r

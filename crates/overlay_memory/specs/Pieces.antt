@@ -1,10 +1,10 @@
-use Rattle.std.specs.Prelude.{◌≡◌, ℕ, ◌+◌, ◌-◌, ◌*◌, ◌/◌, ◌<◌, ◌&&◌, Bool, true, false, not, List, length, Some, None, IfSome, Result, Ok, Err}
+use Rattle.std.specs.Prelude.{◌≡◌, ℕ, ◌+◌, ◌-◌, ◌*◌, ◌/◌, ◌<◌, ◌≤◌, ◌&&◌, Bool, true, false, not, List, length, Some, None, IfSome, Result, Ok, Err}
 use Rattle.std.specs.FinMap as map
 use Rattle.sizes.specs.declared.TheConstants.{LINE_BYTES, PAGE_BYTES}
 use Rattle.ovl_io.specs.Memory.{with_bytes}
 use Rattle.ovl_io.specs.Permissions.{permits}
 use Rattle.overlay_bits.specs.Lines.{lines_between}
-use Rattle.ledger.specs.Changes.{is_large}
+use Rattle.ledger.specs.Changes.{is_large, with_lines}
 use Rattle.ledger.specs.Ledger.{is_alone}
 use Rattle.overlay_pages.specs.State.{PageState, State, base_of, books, memory_of, seen_page}
 use Rattle.overlay_pages.specs.Changes.{IsPlaced, copied, is_writable}
@@ -99,6 +99,13 @@ is_to_settle state space page = is_large (books state) space page && (not (space
 pub record Settles (old new : State) (space page : ℕ) : Type 0 where
   pub still : is_to_settle old space page ≡ false → new ≡ old
   pub placed : is_to_settle old space page ≡ true → IfSome (page_in old space page) (λ x. IsPlaced old new space page (λ frame. copied frame x))
+
+-- A page with own lines has 32 or more once others join them, its space isn't speculating, and it isn't alone: it is settled first.
+pub record ComesToBeLarge (state : State) (space page : ℕ) (lines : List ℕ) : Type 0 where
+  pub off : (space_in state space).speculating ≡ false
+  pub shared : is_alone (books state) space page ≡ false
+  pub overlaid : IfSome (page_in state space page) (λ x. 0 < length x.own)
+  pub many : IfSome (page_in state space page) (λ x. 32 ≤ length (with_lines x.own lines))
 
 -- a space without its pages; its mark stays
 unfoldable pub emptied_space : State → ℕ → State

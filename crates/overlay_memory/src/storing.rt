@@ -20,7 +20,7 @@ use crate::error::{Came, MemoryError, came_of};
 use crate::fronts::Fronts;
 use crate::reading::{line_of, permit};
 use crate::room::{shortage_by, shortage_of};
-use crate::settling::settle_if_large;
+use crate::settling::{comes_to_be_large, settle, settle_if_large, stays_overlay};
 use crate::translating::{bring_line, bring_lines, translate_anew};
 use bitflags::Flags;
 use overlay_bits::Bits;
@@ -98,7 +98,8 @@ fn fill_page(pages: &mut OverlayPages, space: u16, page: u64, at: usize, bytes: 
 }
 
 /// Puts bytes, some and all in one page that is there, whatever its permissions: first the lines in which they lie are made such as can
-/// be written where they stand, then the bytes are put, and then the page is settled where it has to be. The units after it are there.
+/// be written where they stand, then the bytes are put, and then the page is settled where it has to be. A page that has own lines is
+/// settled before that, so that they aren't moved twice. The units after it are there.
 fn put_in_page(
     pages: &mut OverlayPages,
     cache: &mut Cache,
@@ -119,14 +120,14 @@ fn put_in_page(
     ensures lists { bare cache.new ≡ bare cache.old }
 {
     let page = address / PAGE_BYTES as u64;
+    let at = (address % PAGE_BYTES as u64) as usize;
+    if comes_to_be_large(pages, space, page, lines) {
+        settle(pages, cache, space, page);
+        fill_page(pages, space, page, at, bytes);
+        return;
+    }
     bring_lines(pages, cache, space, page, lines);
-    fill_page(
-        pages,
-        space,
-        page,
-        (address % PAGE_BYTES as u64) as usize,
-        bytes,
-    );
+    fill_page(pages, space, page, at, bytes);
     settle_if_large(pages, cache, space, page);
 }
 
@@ -233,8 +234,8 @@ pub(crate) fn write_pages(
 }
 
 /// Stores bytes, some and all in one line, of a page that was found, may be written and is at the front of its list, where the line
-/// can't be written where it stands: units first, then the line, then the bytes. No page is looked up unless the overlay grew, as one
-/// that comes to have 32 lines does.
+/// can't be written where it stands: units first, then the line, then the bytes. No page is looked up unless the overlay grew, or comes to
+/// be as large as a page.
 #[inline(always)]
 fn store_brought(
     pages: &mut OverlayPages,
@@ -255,7 +256,6 @@ fn store_brought(
     requires none_awaits { NoneAwaits (state_of pages.old) space }
     requires held { AreTrue (state_of pages.old) cache.old }
     requires fronts { AreFronts pages.old (bare cache.old) fronts.old }
-    requires small { AreOverlaysSmall (state_of pages.old) }
     ensures stores { Stores pages.old pages.new space address bytes.now (result_at address result) }
     ensures held { AreTrue (state_of pages.new) cache.new }
     ensures lists { bare cache.new ≡ bare cache.old }
@@ -264,6 +264,12 @@ fn store_brought(
     let line = line_of(address);
     if let Some(shortage) = shortage_of(pages.units_with(&page), pages.limit()) {
         return Came::Full(shortage.needed, shortage.limit);
+    }
+    if !stays_overlay(pages, space, page.own) {
+        fronts.clear();
+        let lines = lines_at((address % PAGE_BYTES as u64) as usize, bytes.len());
+        put_in_page(pages, cache, space, address, lines, bytes);
+        return Came::Done;
     }
     let number = address / PAGE_BYTES as u64;
     let at = (address % LINE_BYTES as u64) as usize;
@@ -275,7 +281,6 @@ fn store_brought(
         None => {
             fronts.clear();
             fill_line(pages, space, number, line, at, bytes);
-            settle_if_large(pages, cache, space, number);
         }
     }
     Came::Done
@@ -298,7 +303,6 @@ fn store_apart(
     requires none_awaits { NoneAwaits (state_of pages.old) space }
     requires held { AreTrue (state_of pages.old) cache.old }
     requires fronts { AreFronts pages.old (bare cache.old) fronts.old }
-    requires small { AreOverlaysSmall (state_of pages.old) }
     ensures stores { Stores pages.old pages.new space address bytes.now (result_at address result) }
     ensures held { AreTrue (state_of pages.new) cache.new }
     ensures lists { bare cache.new ≡ bare cache.old }

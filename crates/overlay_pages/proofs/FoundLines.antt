@@ -7,7 +7,6 @@ use Rattle.overlay_pages.proofs.Bringing.{one_more}
 use Rattle.overlay_pages.proofs.Growing.{altered_units}
 use Rattle.overlay_pages.proofs.Found.{writable_found}
 use Rattle.overlay_pages.proofs.Tables.{brought_overlay}
-use Rattle.overlay_pages.specs.Steps.{StaysSmall}
 
 -- A line that comes into the overlay of a page that was found.
 
@@ -90,14 +89,13 @@ module _ (old new : LedgerView) (page : FoundPage) (is : IsFoundPage old page) (
       ∙ alone_same (ledger_of old) page.space page.page (holding_of old.zero_frame is.x) (holding_of old.zero_frame y) (books_there holding_of old page.space page.page is.x is.there) refl q r in
       sym (ap (λ (t : LedgerView). not (space_in t q).speculating && is_alone (ledger_of t) q r) put ∙ (λ i. not (keeps.marks q i) && alone i))
 
-  pub brought_to : (line : ℕ) (found : FoundPage) → with_line page.own line ≡ e.bits → StaysSmall page.own line
+  pub brought_to : (line : ℕ) (found : FoundPage) → with_line page.own line ≡ e.bits
       → found ≡ record { space = page.space; page = page.page; perms = page.perms; frame = page.frame; own = with_line page.own line; block = e.block; in_frame = page.in_frame }
       → IsBroughtTo old new page line found
-  brought_to line found bits small found_is = subst (IsBroughtTo old new page line) (sym found_is) (record {
+  brought_to line found bits found_is = subst (IsBroughtTo old new page line) (sym found_is) (record {
     space_is = refl;
     page_is = refl;
     own = refl;
-    small = small;
     is = record {
       x = y;
       there = ap (λ (t : LedgerView). page_in t page.space page.page) put ∙ page_put_here old page.space page.page y page.space page.page refl refl;

@@ -1,9 +1,6 @@
-use Rattle.overlay_pages.proofs.Common.{◌≡◌, ℕ, ◌+◌, ◌*◌, ◌%◌, ◌^◌, ◌<◌, ◌≤◌, Bool, true, false, List, [], length, refl, sym, ap, ◌∙◌, arith, nat_tests, cond}
-use Rattle.std.specs.Prelude.{nat_le}
+use Rattle.overlay_pages.proofs.Common.{◌≡◌, ℕ, ◌+◌, ◌*◌, ◌%◌, ◌^◌, ◌<◌, ◌≤◌, false, List, length, refl, sym, ap, ◌∙◌, arith, cond}
 use Rattle.overlay_pages.proofs.Stores.{by_order, AreLines, has_line, with_line, are_with, count_with, capacity_of}
 use Rattle.overlay_pages.proofs.Books.{class, class_le}
-use Rattle.ledger.specs.ClassLaws.{class_many}
-use Rattle.overlay_pages.specs.Steps.{StaysSmall}
 
 -- How large a segment is for its lines.
 
@@ -52,26 +49,3 @@ next_place order n low fits =
 -- how many units a block below a frame has
 pub shifted_count : (order : ℕ) → order < 4 → 1 * 2 ^ order % 4294967296 ≡ 2 ^ order
 shifted_count order h = by_order (λ k. 1 * 2 ^ k % 4294967296 ≡ 2 ^ k) refl refl refl refl refl order (omega (arith, h))
-
-class_31 : class 31 ≡ 8
-unfolding class
-class_31 = refl
-
--- a segment that isn't full of at most 31 lines has no more with one line more, and the first line is one
-pub stays_small : (order : ℕ) (bits : List ℕ) (line : ℕ) → order ≤ 4 → AreLines bits → line < 64 → has_line bits line ≡ false → 2 ^ order ≡ class (length bits)
-    → length bits < capacity_of order → StaysSmall bits line
-stays_small order bits line low are in_page absent size fits few =
-    let one : length (with_line bits line) ≡ length bits + 1 = count_with bits line are in_page ∙ ap (λ b. length bits + cond b 0 1) absent in
-    by_class (nat_le 32 (length bits + 1)) refl one
-  where
-    by_class : (b : Bool) → nat_le 32 (length bits + 1) ≡ b → length (with_line bits line) ≡ length bits + 1 → length (with_line bits line) ≤ 31
-    by_class false e one = let less : length bits + 1 ≤ 31 = grind (arith, nat_tests) in omega (arith, one, less)
-    by_class true e one =
-        let many : 32 ≤ length bits + 1 = grind (arith, nat_tests) in
-        let now = still_fits order (length bits) low size fits in
-        let full = class_many (length bits + 1) many in
-        let eight = class_le (length bits) 31 few in
-        absurd (omega (arith, now, full, eight, size, class_31))
-
-pub starts_small : (line : ℕ) → StaysSmall [] line
-starts_small line few = omega arith

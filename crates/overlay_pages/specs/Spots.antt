@@ -1,4 +1,4 @@
-use Rattle.std.specs.Prelude.{◌≡◌, ℕ, ◌<◌, ◌≤◌, ◌&&◌, not, true, false, length, Option, Some, None}
+use Rattle.std.specs.Prelude.{◌≡◌, ℕ, ◌<◌, ◌&&◌, not, true, false, Option, Some, None}
 use Rattle.std.specs.Option.{option_map}
 use Rattle.sizes.specs.declared.TheConstants.{PAGE_LINES}
 use Rattle.unit_map.specs.declared.block.Block.{Block}
@@ -64,13 +64,11 @@ pub record IsFoundPage (table : LedgerView) (found : FoundPage) : Type 0 where
   pub block : (overlay : Entry) → x.overlay ≡ Some overlay → overlay.block ≡ found.block
   pub in_frame : found.in_frame ≡ (not (space_in table found.space).speculating && is_alone (ledger_of table) found.space found.page)
 
--- It is found so once a line of it was brought: that line is one of its own, which aren't more than 31 by it. Every other page is found
--- as before.
+-- It is found so once a line of it was brought: that line is one of its own. Every other page is found as before.
 pub record IsBroughtTo (old new : LedgerView) (page : FoundPage) (line : ℕ) (found : FoundPage) : Type 0 where
   pub space_is : found.space ≡ page.space
   pub page_is : found.page ≡ page.page
   pub own : found.own ≡ with_line page.own line
-  pub small : length page.own ≤ 31 → length found.own ≤ 31
   pub is : IsFoundPage new found
   pub others : (other : FoundPage) → (other.space ≡ page.space → other.page ≡ page.page → ⊥) → IsFoundPage old other → IsFoundPage new other
 

@@ -1,4 +1,4 @@
-use Rattle.std.specs.Prelude.{◌≡◌, ℕ, ◌+◌, ◌^◌, ◌<◌, ◌≤◌, ◌⊎◌, cond, nat_eq, List, length, Option, Some, None, IsSome, option_map, slice_set}
+use Rattle.std.specs.Prelude.{◌≡◌, ℕ, ◌+◌, ◌^◌, ◌<◌, ◌≤◌, ◌⊎◌, cond, nat_eq, List, Option, Some, None, IsSome, option_map, slice_set}
 use Rattle.unit_map.specs.Pieces.{CanSettle, free_units}
 use Rattle.unit_map.specs.declared.block.Block.{Block}
 use Rattle.store_compaction.specs.declared.moves.Move.{Move}
@@ -100,10 +100,6 @@ joins line bytes x = record { entry = x.entry; own = with_line x.own line; lines
 abbrev pub HasJoined : LedgerView → LedgerView → ℕ → ℕ → List ℕ → ℕ → Block → Type 0
 HasJoined old new space page bits line block =
     new ≡ with_overlay old space page (Some (record { bits = with_line bits line; block = block }))
-
--- a set of at most 31 lines still has no more with one line more
-abbrev pub StaysSmall : List ℕ → ℕ → Type 0
-StaysSmall bits line = length bits ≤ 31 → length (with_line bits line) ≤ 31
 
 -- a page whose overlay has lines of scratch, and one line more
 abbrev pub laid_line : Store → List ℕ → ℕ → List ℕ → ℕ → ℕ → List ℕ

@@ -16,7 +16,7 @@ ghost use Rattle.overlay_pages.specs.Changes.{Fits, brought, discarded, is_writa
 ghost use Rattle.overlay_pages.specs.Calls.{MovesFewBeside};
 ghost use Rattle.overlay_pages.specs.Spots.{IsBroughtTo, IsFoundPage};
 ghost use Rattle.overlay_pages.specs.View.{IsJoined, state_of, view_of};
-ghost use Rattle.overlay_pages.specs.Steps.{HasJoined, StaysSmall, joins, laid};
+ghost use Rattle.overlay_pages.specs.Steps.{HasJoined, joins, laid};
 
 use crate::moving::settle;
 use crate::spots::FoundPage;
@@ -178,7 +178,6 @@ fn insert_line(
     ensures state { state_of (view_of store.new ledger.new)
         ≡ altered_page (joins line bytes.now) (state_of (view_of store.old ledger.old)) space page }
     ensures table { HasJoined ledger.old ledger.new space page entry.bits line result }
-    ensures small { StaysSmall entry.bits line }
 {
     store.insert(entry.block, line, bytes);
     let bits = entry.bits.with(line);
@@ -262,7 +261,6 @@ fn join(
     ensures state { state_of (view_of store.new ledger.new)
         ≡ altered_page (joins line bytes.now) (state_of (view_of store.old ledger.old)) space page }
     ensures stays { IfSome result (HasJoined ledger.old ledger.new space page (lines_of overlay) line) }
-    ensures small { IfSome result (λ _. StaysSmall (lines_of overlay) line) }
 {
     match overlay {
         Some(entry) => {
@@ -311,7 +309,6 @@ fn bring_line(
     ensures state { state_of (view_of store.new ledger.new)
         ≡ altered_page (brought (line ∷ [])) (state_of (view_of store.old ledger.old)) space page }
     ensures stays { IfSome result (HasJoined ledger.old ledger.new space page (lines_of overlay) line) }
-    ensures small { IfSome result (λ _. StaysSmall (lines_of overlay) line) }
 {
     if has_own(&overlay, line) {
         return None;

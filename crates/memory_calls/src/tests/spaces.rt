@@ -24,6 +24,21 @@ pub(super) fn open() -> Perms {
     Perms::R.union(Perms::W)
 }
 
+// Whether no page of a space that is there has 32 own lines or more.
+fn is_small(memory: &OverlayMemory, space: u16) -> bool
+    requires { holds_space (state_of memory.now) space ≡ true }
+    ensures { IsTrue result → NoneLarge (books (state_of memory.now)) space }
+{
+    let mut from = 0;
+    'looking: while let Some(page) = memory.next_overlaid(space, from) {
+        if memory.lines_of(space, page).len() >= 32 {
+            return false;
+        }
+        from = page + 1;
+    }
+    true
+}
+
 // A memory in which no page of any space awaits.
 #[derive(Drop)]
 pub(super) struct Spaces {
@@ -238,25 +253,10 @@ impl Spaces {
         self.memory.drop_space(space);
     }
 
-    // Whether no page of a space that is there has 32 own lines or more.
-    fn is_small(&self, space: u16) -> bool
-        requires { holds_space (state_of self.now) space ≡ true }
-        ensures { IsTrue result → NoneLarge (books (state_of self.now)) space }
-    {
-        let mut from = 0;
-        'looking: while let Some(page) = self.memory.next_overlaid(space, from) {
-            if self.memory.lines_of(space, page).len() >= 32 {
-                return false;
-            }
-            from = page + 1;
-        }
-        true
-    }
-
     // Sets the mark of a space that is there, or takes it away where no page has 32 own lines or more.
     pub(super) fn set_speculating(&mut self, rt: &impl Abort, space: u16, on: bool) {
         assert!(rt; self.memory.has_space(space));
-        assert!(rt; on || self.is_small(space));
+        assert!(rt; on || is_small(&self.memory, space));
         self.memory.set_speculating(space, on);
     }
 

@@ -1,20 +1,9 @@
 use Rattle.std.proofs.Common.{Some, is_some, sym, ap, ◌∙◌}
 use Rattle.overlay_pages.specs.View.{state_of}
-use Rattle.overlay_memory.specs.Joined.{units_fit}
 use Rattle.overlay_memory.proofs.Fronting.{held_there}
-use Rattle.overlay_memory.proofs.Settled.{IsPlacedAnew, anew_there, lists_replaced, placed_anew, replaced_true, settle_overlaid, settle_room, settle_shared, settles_so}
+use Rattle.overlay_memory.proofs.Settled.{IsPlacedAnew, anew_there, lists_replaced, placed_anew, replaced_true}
 use Rattle.overlay_memory.proofs.settling.settle.Goals as goal
 use Rattle.overlay_memory.proofs.settling.settle.Goals.{After-copy_commit_page}
-
-pub copy_commit_page-requires-clause-overlaid : goal.copy_commit_page-requires-clause-overlaid
-copy_commit_page-requires-clause-overlaid c = settle_overlaid (state_of c.args.pages.now) c.args.space c.args.page c.requires.there c.requires.large
-
-pub copy_commit_page-requires-clause-shared : goal.copy_commit_page-requires-clause-shared
-copy_commit_page-requires-clause-shared c = settle_shared (state_of c.args.pages.now) c.args.space c.args.page c.requires.large
-
-pub copy_commit_page-requires-clause-room : goal.copy_commit_page-requires-clause-room
-copy_commit_page-requires-clause-room c =
-    settle_room (state_of c.args.pages.now) c.args.space c.args.page (units_fit c.args.pages.now c.requires.joined) c.requires.large
 
 -- the page in its new frame
 anew : (c : After-copy_commit_page) → IsPlacedAnew (state_of c.args.pages.now) (state_of c.copy_commit_page.new.self) c.args.space c.args.page
@@ -24,10 +13,6 @@ pub unreachable-requires : goal.unreachable-requires
 unreachable-requires c =
     let there = anew_there (state_of c.args.pages.now) (state_of c.copy_commit_page.new.self) c.args.space c.args.page (anew (goal.at.unreachable-requires c).After-copy_commit_page) in
     let no_page = sym there ∙ ap is_some c.in-None.ensures.found in cc
-
-pub returns-clause-settles : goal.returns-clause-settles
-returns-clause-settles c =
-    settles_so (state_of c.args.pages.now) (state_of c.copy_commit_page.new.self) c.args.space c.args.page c.requires.large c.copy_commit_page.ensures.placed
 
 pub returns-clause-held : goal.returns-clause-held
 returns-clause-held c =

@@ -7,7 +7,7 @@ use Rattle.overlay_pages.specs.Spots.{IsBroughtTo, IsFoundPageAt}
 use Rattle.overlay_memory.specs.Fronts.{AreFronts}
 use Rattle.overlay_memory.specs.Pieces.{IsFilled}
 use Rattle.overlay_memory.proofs.Fronting.{brought_fronts, filled_fronts, line_there, none_known, of_line}
-use Rattle.overlay_memory.proofs.InOne.{brought_at, filled_awaits, filled_there, is_apart, line_fits, line_full, line_stays, line_stored, line_writable}
+use Rattle.overlay_memory.proofs.InOne.{brought_at, is_apart, line_allowed, line_fits, line_here, line_room, line_full, line_stays, line_stored, line_writable}
 use Rattle.overlay_memory.proofs.InOne as one
 use Rattle.overlay_memory.proofs.Truths.{filled_true}
 use Rattle.overlay_memory.proofs.storing.store_brought.Goals as goal
@@ -19,6 +19,31 @@ returns-in-Some-clause-stores c =
     line_full
     (is_apart c.requires.found c.line_of-line.ensures.line c.units_with.ensures.joined c.requires.may c.requires.apart c.requires.some c.requires.one_line)
     c.units_with.result c.limit.result c.in-Some.shortage c.units_with.ensures.units c.limit.ensures.limit c.in-Some.ensures
+
+-- Where its page comes to be large.
+
+pub put_in_page-requires-clause-there : goal.put_in_page-requires-clause-there
+put_in_page-requires-clause-there c =
+    line_here
+    (is_apart c.requires.found c.line_of-line.ensures.line c.units_with.ensures.joined c.requires.may c.requires.apart c.requires.some c.requires.one_line)
+
+pub put_in_page-requires-clause-fits : goal.put_in_page-requires-clause-fits
+put_in_page-requires-clause-fits c =
+    line_room
+    (is_apart c.requires.found c.line_of-line.ensures.line c.units_with.ensures.joined c.requires.may c.requires.apart c.requires.some c.requires.one_line)
+    c.units_with.result c.limit.result c.units_with.ensures.units c.limit.ensures.limit c.in_default.ensures
+
+pub returns-then-not-stays_overlay-clause-stores : goal.returns-then-not-stays_overlay-clause-stores
+returns-then-not-stays_overlay-clause-stores c = (
+  line_allowed
+      (is_apart c.requires.found c.line_of-line.ensures.line c.units_with.ensures.joined c.requires.may c.requires.apart c.requires.some c.requires.one_line),
+  c.put_in_page.ensures.stored,
+)
+
+pub returns-then-not-stays_overlay-clause-fronts : goal.returns-then-not-stays_overlay-clause-fronts
+returns-then-not-stays_overlay-clause-fronts c = none_known _ _ _ c.clear.ensures
+
+-- Where its line is brought.
 
 pub bring_line-requires-clause-fits : goal.bring_line-requires-clause-fits
 bring_line-requires-clause-fits c =
@@ -69,7 +94,7 @@ returns-in-Some-bring_line-clause-stores c =
     (line_there view c.args.space c.args.address c.line_of-line.result c.in-Some-bring_line.found c.line.result (at page) c.line_of-line.ensures.line (c.line.ensures view (to page).is))
     (λ s p l. IsFilled (state_of view) new s (4096 * p + (64 * l + c.args.address % 64)) c.args.bytes.now) c.put-in-Some-bring_line.ensures.filled in
     line_stored it (state_of view) c.bring_line.ensures.brought new filled new
-    (line_stays it c.requires.small view c.in-Some-bring_line.found (to page) c.bring_line.ensures.brought new filled)
+    (line_stays it (c.stays_overlay.ensures c.if-not-stays_overlay.false) (state_of view) c.bring_line.ensures.brought new filled)
 
 pub returns-in-Some-bring_line-clause-held : goal.returns-in-Some-bring_line-clause-held
 returns-in-Some-bring_line-clause-held c =
@@ -91,30 +116,18 @@ filled : (c : After-fill_line) → IsFilled (state_of c.bring_line.new.pages) (s
 filled c = subst (λ l. IsFilled (state_of c.bring_line.new.pages) (state_of c.fill_line.new.pages) c.args.space (4096 * (c.args.address / 4096) + (64 * l + c.args.address % 64)) c.args.bytes.now)
     c.line_of-line.ensures.line c.fill_line.ensures
 
-pub settle_if_large-requires-clause-there : goal.settle_if_large-requires-clause-there
-settle_if_large-requires-clause-there c =
-    filled_there
-    (is_apart c.requires.found c.line_of-line.ensures.line c.units_with.ensures.joined c.requires.may c.requires.apart c.requires.some c.requires.one_line)
-    (state_of c.bring_line.new.pages) c.bring_line.ensures.brought (state_of c.fill_line.new.pages) (filled (goal.at.settle_if_large-requires-clause-there c).After-fill_line)
+pub returns-in-None-clause-stores : goal.returns-in-None-clause-stores
+returns-in-None-clause-stores c =
+    let it = is_apart c.requires.found c.line_of-line.ensures.line c.units_with.ensures.joined c.requires.may c.requires.apart c.requires.some c.requires.one_line in
+    let put = filled (goal.at.returns-in-None-clause-stores c).After-fill_line in
+    line_stored it (state_of c.bring_line.new.pages) c.bring_line.ensures.brought (state_of c.fill_line.new.pages) put (state_of c.fill_line.new.pages)
+    (line_stays it (c.stays_overlay.ensures c.if-not-stays_overlay.false) (state_of c.bring_line.new.pages) c.bring_line.ensures.brought
+    (state_of c.fill_line.new.pages) put)
 
-pub settle_if_large-requires-clause-none_awaits : goal.settle_if_large-requires-clause-none_awaits
-settle_if_large-requires-clause-none_awaits c =
-    filled_awaits
-    (is_apart c.requires.found c.line_of-line.ensures.line c.units_with.ensures.joined c.requires.may c.requires.apart c.requires.some c.requires.one_line)
-    (state_of c.bring_line.new.pages) c.bring_line.ensures.brought (state_of c.fill_line.new.pages) (filled (goal.at.settle_if_large-requires-clause-none_awaits c).After-fill_line)
-    c.requires.none_awaits
-
-pub settle_if_large-requires-clause-held : goal.settle_if_large-requires-clause-held
-settle_if_large-requires-clause-held c =
+pub returns-in-None-clause-held : goal.returns-in-None-clause-held
+returns-in-None-clause-held c =
     filled_true (state_of c.bring_line.new.pages) (state_of c.fill_line.new.pages) c.args.space _ c.args.bytes.now c.bring_line.new.cache c.fill_line.ensures
     c.bring_line.ensures.held
 
-pub returns-in-None-clause-stores : goal.returns-in-None-clause-stores
-returns-in-None-clause-stores c =
-    line_stored
-    (is_apart c.requires.found c.line_of-line.ensures.line c.units_with.ensures.joined c.requires.may c.requires.apart c.requires.some c.requires.one_line)
-    (state_of c.bring_line.new.pages) c.bring_line.ensures.brought (state_of c.fill_line.new.pages) (filled (goal.at.returns-in-None-clause-stores c).After-fill_line)
-    (state_of c.settle_if_large.new.pages) c.settle_if_large.ensures.settles
-
 pub returns-in-None-clause-fronts : goal.returns-in-None-clause-fronts
-returns-in-None-clause-fronts c = none_known _ _ _ c.clear.ensures
+returns-in-None-clause-fronts c = none_known _ _ _ c.clear-in-None.ensures

@@ -3,8 +3,7 @@ use Rattle.overlay_pages.proofs.Stores.{with_line}
 use Rattle.overlay_pages.proofs.Books.{with_overlay}
 use Rattle.overlay_pages.proofs.Views.{joins, view_of}
 use Rattle.overlay_pages.proofs.Overlaying.{overlays}
-use Rattle.overlay_pages.proofs.Joining.{inserted, inserted_fills, joined_page, order_low, page_with, sets_are}
-use Rattle.overlay_pages.proofs.Sizes.{stays_small}
+use Rattle.overlay_pages.proofs.Joining.{inserted, inserted_fills, joined_page, page_with}
 use Rattle.overlay_pages.proofs.overlays.insert_line.Goals as goal
 
 pub returns : goal.returns
@@ -20,10 +19,4 @@ returns c =
     (joins c.args.line c.args.bytes.now)
     (joined_page c.args.store.now c.insert.new.self c.args.entry c.args.line c.args.bytes.now f.x f.is c.requires.line
     (inserted_fills c.args.store.now c.insert.new.self c.args.space c.args.page f.x c.args.entry c.args.line c.args.bytes.now held f.is e.inserts) (e.frames f.x.entry.frame held.frame)) in
-    record {
-      joined = all.0;
-      state = all.1;
-      table = table;
-      small = stays_small c.args.entry.block.order c.args.entry.bits c.args.line (order_low c.args.store.now c.args.space c.args.page f.x c.args.entry c.requires.joined.store held f.is)
-          (sets_are c.args.store.now c.args.space c.args.page f.x c.args.entry c.requires.joined.store held f.is) c.requires.line c.requires.absent (held.size c.args.entry f.is) c.requires.fits;
-    }
+    record { joined = all.0; state = all.1; table = table }
