@@ -65,11 +65,13 @@ HasAnswerLine (answer.Refused code) = HasCodeLine code
 HasAnswerLine (answer.Full units limit) = Unit {0}
 HasAnswerLine answer.Memory = ⊥
 
--- A step has no line; every other turn has one. What is written to port 1 goes out, what is written to port 2 is an error.
+-- A step has no line; every other turn has one. What is written to port 1 goes out, what is written to port 2 is
+-- an error.
 abbrev pub turn_text : ℕ → Turn → List ℕ
 turn_text p turn.Stepped = []
 turn_text p (turn.Wrote written) =
-    (if written.0 == 1 then codes "out " else codes "err ") ++ in_decimal p ++ codes " " ++ flat_map byte_text written.1 ++ codes "\n"
+    (if written.0 == 1 then codes "out " else codes "err ") ++ in_decimal p ++ codes " "
+    ++ flat_map byte_text written.1 ++ codes "\n"
 turn_text p (turn.Exited exit) = codes "exited " ++ in_decimal p ++ codes " " ++ in_decimal exit ++ codes "\n"
 turn_text p (turn.Faulted kind at) =
     codes "faulted " ++ in_decimal p ++ codes " " ++ kind_text kind ++ codes " " ++ address_text at ++ codes "\n"

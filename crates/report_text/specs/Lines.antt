@@ -8,7 +8,8 @@ use Rattle.report_text.specs.Names.{stop_word}
 use Rattle.report_text.specs.Texts.{state_text, pages_text}
 use Rattle.report_text.specs.Instructions.{instruction_text}
 
--- Lines of the report, beside those of answers and turns. Each ends with the byte 0A; its words are divided by one blank.
+-- Lines of the report, beside those of answers and turns. Each ends with the byte 0A; its words are divided by
+-- one blank.
 
 -- the first line of a script that is outside, from 1
 abbrev pub bad_line : ℕ → List ℕ
@@ -43,7 +44,8 @@ regs_line p state speculating = codes "regs " ++ in_decimal p ++ codes " " ++ st
 
 -- a register, by its number; the pc stands in the place of x0
 abbrev pub register_line : ℕ → ℕ → List ℕ
-register_line i value = (if i == 0 then codes "pc" else codes "x" ++ in_decimal i) ++ codes " " ++ word_text value ++ codes "\n"
+register_line i value =
+    (if i == 0 then codes "pc" else codes "x" ++ in_decimal i) ++ codes " " ++ word_text value ++ codes "\n"
 
 -- bytes of memory, for each a blank and its two hexadecimal digits, behind the address of the first
 abbrev pub dump_line : ℕ → List ℕ → List ℕ
