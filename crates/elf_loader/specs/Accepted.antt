@@ -35,10 +35,11 @@ header_refusals file =
     -- e_type is ET_EXEC, e_machine is EM_RISCV
     ∷ refused_if (not (number_at file 16 2 == 2)) NotExec
     ∷ refused_if (not (number_at file 18 2 == 243)) NotRiscv
-    -- where there are program headers, e_phentsize is 56, and the table is in the file. An e_phnum of 65,535 says
-    -- that their number stands elsewhere.
+    -- where there are program headers, e_phentsize is 56, and the table is in the file. An e_phnum of 65,535
+    -- says that their number stands elsewhere.
     ∷ refused_if (not (table_length file == 0) && not (number_at file 54 2 == 56)) BadEntrySize
-    ∷ refused_if ((table_length file == 65535) || ends_behind (length file) (table_offset file) (56 * table_length file)) TableOutside
+    ∷ refused_if ((table_length file == 65535)
+    || ends_behind (length file) (table_offset file) (56 * table_length file)) TableOutside
     ∷ []
 
 -- what the program headers don't (ELF-64, "Program Header"); an image may use what lies below the stack

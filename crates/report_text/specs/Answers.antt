@@ -1,4 +1,4 @@
-use Rattle.std.specs.Prelude.{ℕ, ◌≤◌, ◌==◌, ◌||◌, Bool, true, false, List, [], ◌++◌, length, IsTrue}
+use Rattle.std.specs.Prelude.{ℕ, ◌≤◌, ◌==◌, ◌||◌, Bool, true, false, List, [], ◌++◌, flat_map, codes, length, IsTrue, if◌then◌else◌}
 use Rattle.ovl_io.specs.declared.turn.Turn.{Turn}
 use Rattle.ovl_io.specs.declared.turn.Turn.TheVariants as turn
 use Rattle.elf_loader.specs.declared.image.ElfError.{ElfError}
@@ -10,21 +10,27 @@ use Rattle.report_text.specs.declared.answer.Answer.{Answer}
 use Rattle.report_text.specs.declared.answer.Answer.TheVariants as answer
 use Rattle.report_text.specs.declared.answer.Stop.{Stop}
 use Rattle.report_text.specs.declared.answer.Stop.TheVariants as stop
-use Rattle.report_text.specs.Lines.{loaded_line, forked_line, saved_line, done_line, refused_line, full_line, wrote_line, exited_line, faulted_line, full_turn_line, break_line, ran_line}
+use Rattle.report_text.specs.Digits.{in_decimal, address_text}
+use Rattle.report_text.specs.Names.{kind_text, code_text}
+use Rattle.report_text.specs.Texts.{byte_text, pages_text}
+use Rattle.report_text.specs.Lines.{ran_line}
 
--- The texts of answers, turns and endings.
+-- The texts of answers, turns and endings. Each line ends with the byte 0A; its words are divided by one blank.
 
 -- a checkpoint's name: 1 to 32 bytes
 abbrev pub IsCheckpointName : List ℕ → Type 0
 IsCheckpointName name = (1 ≤ length name) × (length name ≤ MOST_NAME)
 
+-- The line of an answer: of `full` with the units that the command would come to, and the limit.
 abbrev pub answer_text : Answer → List ℕ
-answer_text answer.Done = done_line
-answer_text (answer.Loaded p pages entry) = loaded_line p pages entry
-answer_text (answer.Forked p new) = forked_line p new
-answer_text (answer.Saved p name space) = saved_line p name space
-answer_text (answer.Refused code) = refused_line code
-answer_text (answer.Full units limit) = full_line units limit
+answer_text answer.Done = codes "ok\n"
+answer_text (answer.Loaded p pages entry) =
+    codes "loaded " ++ in_decimal p ++ pages_text pages ++ codes " entry " ++ address_text entry ++ codes "\n"
+answer_text (answer.Forked p new) = codes "forked " ++ in_decimal p ++ codes " " ++ in_decimal new ++ codes "\n"
+answer_text (answer.Saved p name space) =
+    codes "saved " ++ in_decimal p ++ codes " " ++ name ++ codes " " ++ in_decimal space ++ codes "\n"
+answer_text (answer.Refused code) = codes "refused " ++ code_text code ++ codes "\n"
+answer_text (answer.Full units limit) = codes "full " ++ in_decimal units ++ codes " " ++ in_decimal limit ++ codes "\n"
 answer_text answer.Memory = []
 
 -- Want of memory has no line.
@@ -59,13 +65,18 @@ HasAnswerLine (answer.Refused code) = HasCodeLine code
 HasAnswerLine (answer.Full units limit) = Unit {0}
 HasAnswerLine answer.Memory = ⊥
 
--- A step has no line; every other turn has one.
+-- A step has no line; every other turn has one. What is written to port 1 goes out, what is written to port 2 is
+-- an error.
 abbrev pub turn_text : ℕ → Turn → List ℕ
 turn_text p turn.Stepped = []
-turn_text p (turn.Wrote written) = wrote_line p written.0 written.1
-turn_text p (turn.Exited exit) = exited_line p exit
-turn_text p (turn.Faulted kind at) = faulted_line p kind at
-turn_text p (turn.Full units limit) = full_turn_line p units limit
+turn_text p (turn.Wrote written) =
+    (if written.0 == 1 then codes "out " else codes "err ") ++ in_decimal p ++ codes " "
+    ++ flat_map byte_text written.1 ++ codes "\n"
+turn_text p (turn.Exited exit) = codes "exited " ++ in_decimal p ++ codes " " ++ in_decimal exit ++ codes "\n"
+turn_text p (turn.Faulted kind at) =
+    codes "faulted " ++ in_decimal p ++ codes " " ++ kind_text kind ++ codes " " ++ address_text at ++ codes "\n"
+turn_text p (turn.Full units limit) =
+    codes "full " ++ in_decimal p ++ codes " " ++ in_decimal units ++ codes " " ++ in_decimal limit ++ codes "\n"
 
 abbrev pub has_turn_line : Turn → Bool
 has_turn_line turn.Stepped = false
@@ -87,5 +98,6 @@ abbrev pub stop_text : ℕ → Stop → List ℕ
 stop_text taken stop.Limit = ran_line taken stop.Limit
 stop_text taken stop.Idle = ran_line taken stop.Idle
 stop_text taken stop.Ended = ran_line taken stop.Ended
-stop_text taken (stop.Break p at) = break_line p at ++ ran_line taken (stop.Break p at)
+stop_text taken (stop.Break p at) =
+    codes "break " ++ in_decimal p ++ codes " " ++ address_text at ++ codes "\n" ++ ran_line taken (stop.Break p at)
 stop_text taken stop.Full = ran_line taken stop.Full

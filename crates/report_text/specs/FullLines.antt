@@ -1,12 +1,10 @@
 use Rattle.std.specs.Prelude.{◌≡◌, ℕ, ◌==◌, ◌&&◌, ◌||◌, Bool, true, false, List, [], ◌∷◌, ◌++◌, flat_map, codes, refl, if◌then◌else◌}
 use Rattle.std.proofs.Common.{sym, ap, ◌∙◌}
-use Rattle.ovl_io.specs.declared.process_state.FaultKind.{FaultKind}
 use Rattle.ovl_io.specs.declared.process_state.ProcessState.{ProcessState}
 use Rattle.ovl_io.specs.declared.turn.Turn.{Turn}
 use Rattle.ovl_io.specs.declared.turn.Turn.TheVariants as turn
 use Rattle.report_text.specs.declared.answer.Answer.{Answer}
 use Rattle.report_text.specs.declared.answer.Answer.TheVariants as answer
-use Rattle.report_text.specs.declared.answer.Code.{Code}
 use Rattle.report_text.specs.declared.answer.Stop.{Stop}
 use Rattle.report_text.specs.declared.answer.Stop.TheVariants as stop
 use Rattle.rv_decode.specs.declared.names.Name.{Name}
@@ -15,7 +13,7 @@ use Rattle.report_text.specs.Digits.{in_decimal, address_text, hex_places, word_
 use Rattle.report_text.specs.Names.{kind_text, code_text, stop_word}
 use Rattle.report_text.specs.Texts.{byte_text, state_text, pages_text}
 use Rattle.report_text.specs.Instructions.{instruction_text}
-use Rattle.report_text.specs.Lines.{loaded_line, forked_line, saved_line, refused_line, full_line, wrote_line, exited_line, faulted_line, full_turn_line, break_line, ran_line, list_line, process_line, checkpoint_line, stats_line, regs_line, register_line, dump_line, disasm_line, disasm_line_by}
+use Rattle.report_text.specs.Lines.{ran_line, list_line, process_line, checkpoint_line, stats_line, regs_line, register_line, dump_line, disasm_line, disasm_line_by}
 use Rattle.report_text.specs.Answers.{answer_text, turn_text, stop_text}
 
 -- Whether a line of a report begins with the word `full`, as those do that say that there weren't units enough.
@@ -81,37 +79,10 @@ line_end : EndsLine (codes "\n")
 unfolding ends
 line_end begins = refl
 
--- The lines of the report, one by one.
+-- The lines of the report that aren't those of answers and turns, one by one.
 
 line : (word : List ℕ) → EndsLine (word ++ codes "\n")
 line word = behind word (codes "\n") line_end
-
-ends_loaded : (p pages entry : ℕ) → EndsLine (loaded_line p pages entry)
-ends_loaded p pages entry = line (codes "loaded " ++ in_decimal p ++ pages_text pages ++ codes " entry " ++ address_text entry)
-
-ends_forked : (p new : ℕ) → EndsLine (forked_line p new)
-ends_forked p new = line (codes "forked " ++ in_decimal p ++ codes " " ++ in_decimal new)
-
-ends_saved : (p : ℕ) (name : List ℕ) (space : ℕ) → EndsLine (saved_line p name space)
-ends_saved p name space = line (codes "saved " ++ in_decimal p ++ codes " " ++ name ++ codes " " ++ in_decimal space)
-
-ends_refused : (code : Code) → EndsLine (refused_line code)
-ends_refused code = line (codes "refused " ++ code_text code)
-
-ends_full : (units limit : ℕ) → EndsLine (full_line units limit)
-ends_full units limit = line (codes "full " ++ in_decimal units ++ codes " " ++ in_decimal limit)
-
-ends_wrote : (p port : ℕ) (bytes : List ℕ) → EndsLine (wrote_line p port bytes)
-ends_wrote p port bytes = line ((if port == 1 then codes "out " else codes "err ") ++ in_decimal p ++ codes " " ++ flat_map byte_text bytes)
-
-ends_exited : (p exit : ℕ) → EndsLine (exited_line p exit)
-ends_exited p exit = line (codes "exited " ++ in_decimal p ++ codes " " ++ in_decimal exit)
-
-ends_faulted : (p : ℕ) (kind : FaultKind) (at : ℕ) → EndsLine (faulted_line p kind at)
-ends_faulted p kind at = line (codes "faulted " ++ in_decimal p ++ codes " " ++ kind_text kind ++ codes " " ++ address_text at)
-
-ends_full_turn : (p units limit : ℕ) → EndsLine (full_turn_line p units limit)
-ends_full_turn p units limit = line (codes "full " ++ in_decimal p ++ codes " " ++ in_decimal units ++ codes " " ++ in_decimal limit)
 
 ends_ran : (taken : ℕ) (why : Stop) → EndsLine (ran_line taken why)
 ends_ran taken why = line (codes "ran " ++ in_decimal taken ++ codes " " ++ stop_word why)
@@ -150,25 +121,25 @@ ends_disasm = ends_disasm_by is_base
 
 pub answer_lines : (result : Answer) → AreWholeLines (answer_text result)
 answer_lines answer.Done = line (codes "ok") true
-answer_lines (answer.Loaded p pages entry) = ends_loaded p pages entry true
-answer_lines (answer.Forked p new) = ends_forked p new true
-answer_lines (answer.Saved p name space) = ends_saved p name space true
-answer_lines (answer.Refused code) = ends_refused code true
-answer_lines (answer.Full units limit) = ends_full units limit true
+answer_lines (answer.Loaded p pages entry) = line (codes "loaded " ++ in_decimal p ++ pages_text pages ++ codes " entry " ++ address_text entry) true
+answer_lines (answer.Forked p new) = line (codes "forked " ++ in_decimal p ++ codes " " ++ in_decimal new) true
+answer_lines (answer.Saved p name space) = line (codes "saved " ++ in_decimal p ++ codes " " ++ name ++ codes " " ++ in_decimal space) true
+answer_lines (answer.Refused code) = line (codes "refused " ++ code_text code) true
+answer_lines (answer.Full units limit) = line (codes "full " ++ in_decimal units ++ codes " " ++ in_decimal limit) true
 answer_lines answer.Memory = no_lines
 
 pub turn_lines : (p : ℕ) (came : Turn) → AreWholeLines (turn_text p came)
 turn_lines p turn.Stepped = no_lines
-turn_lines p (turn.Wrote written) = ends_wrote p written.0 written.1 true
-turn_lines p (turn.Exited exit) = ends_exited p exit true
-turn_lines p (turn.Faulted kind at) = ends_faulted p kind at true
-turn_lines p (turn.Full units limit) = ends_full_turn p units limit true
+turn_lines p (turn.Wrote written) = line ((if written.0 == 1 then codes "out " else codes "err ") ++ in_decimal p ++ codes " " ++ flat_map byte_text written.1) true
+turn_lines p (turn.Exited exit) = line (codes "exited " ++ in_decimal p ++ codes " " ++ in_decimal exit) true
+turn_lines p (turn.Faulted kind at) = line (codes "faulted " ++ in_decimal p ++ codes " " ++ kind_text kind ++ codes " " ++ address_text at) true
+turn_lines p (turn.Full units limit) = line (codes "full " ++ in_decimal p ++ codes " " ++ in_decimal units ++ codes " " ++ in_decimal limit) true
 
 pub stop_lines : (taken : ℕ) (why : Stop) → AreWholeLines (stop_text taken why)
 stop_lines taken stop.Limit = ends_ran taken stop.Limit true
 stop_lines taken stop.Idle = ends_ran taken stop.Idle true
 stop_lines taken stop.Ended = ends_ran taken stop.Ended true
-stop_lines taken (stop.Break p at) = behind (break_line p at) (ran_line taken (stop.Break p at)) (ends_ran taken (stop.Break p at)) true
+stop_lines taken (stop.Break p at) = behind (codes "break " ++ in_decimal p ++ codes " " ++ address_text at ++ codes "\n") (ran_line taken (stop.Break p at)) (ends_ran taken (stop.Break p at)) true
 stop_lines taken stop.Full = ends_ran taken stop.Full true
 
 -- What the lines of `full` show.

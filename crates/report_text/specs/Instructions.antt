@@ -41,7 +41,8 @@ i_operands row i =
 
 -- the operands of an instruction by its row's format; the immediate of the format U is a multiple of 2^12
 abbrev pub operands_by : Format → CaseRow → Instr → List ℕ
-operands_by format.R row i = codes " " ++ register_text i.rd ++ codes ", " ++ register_text i.rs1 ++ codes ", " ++ register_text i.rs2
+operands_by format.R row i =
+    codes " " ++ register_text i.rd ++ codes ", " ++ register_text i.rs1 ++ codes ", " ++ register_text i.rs2
 operands_by format.I row i = i_operands row i
 operands_by format.S row i = offset_text i.rs2 i.imm i.rs1
 operands_by format.B row i = two_registers_text i.rs1 i.rs2 i.imm
@@ -53,5 +54,5 @@ operands_by format.N row i = []
 
 -- what a word means by the table of these names
 unfoldable pub instruction_text : (Name → Bool) → ℕ → List ℕ
-instruction_text has word =
-    option_map_or (λ i. text_of i.name ++ operands_by (row_of i.name).format (row_of i.name) i) (meaning_by has word) (codes "illegal")
+instruction_text has word = option_map_or
+    (λ i. text_of i.name ++ operands_by (row_of i.name).format (row_of i.name) i) (meaning_by has word) (codes "illegal")

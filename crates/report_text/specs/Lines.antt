@@ -1,63 +1,19 @@
 use Rattle.std.specs.Prelude.{ℕ, ◌==◌, Bool, List, ◌++◌, flat_map, codes, if◌then◌else◌}
-use Rattle.ovl_io.specs.declared.process_state.FaultKind.{FaultKind}
 use Rattle.ovl_io.specs.declared.process_state.ProcessState.{ProcessState}
-use Rattle.report_text.specs.declared.answer.Code.{Code}
 use Rattle.report_text.specs.declared.answer.Stop.{Stop}
 use Rattle.rv_decode.specs.declared.names.Name.{Name}
 use Rattle.rv_decode.specs.Table.{is_base}
-use Rattle.report_text.specs.Digits.{in_decimal, address_text, hex_places, word_text}
-use Rattle.report_text.specs.Names.{kind_text, code_text, stop_word}
-use Rattle.report_text.specs.Texts.{byte_text, state_text, pages_text}
+use Rattle.report_text.specs.Digits.{in_decimal, hex_places, word_text}
+use Rattle.report_text.specs.Names.{stop_word}
+use Rattle.report_text.specs.Texts.{state_text, pages_text}
 use Rattle.report_text.specs.Instructions.{instruction_text}
 
--- The lines of the report. Each ends with the byte 0A; its words are divided by one blank.
-
--- a load: the process, its pages and its entry
-abbrev pub loaded_line : ℕ → ℕ → ℕ → List ℕ
-loaded_line p pages entry = codes "loaded " ++ in_decimal p ++ pages_text pages ++ codes " entry " ++ address_text entry ++ codes "\n"
-
--- a fork: the process, and the new one
-abbrev pub forked_line : ℕ → ℕ → List ℕ
-forked_line p new = codes "forked " ++ in_decimal p ++ codes " " ++ in_decimal new ++ codes "\n"
-
--- a checkpoint: the process, the name, and the new space
-abbrev pub saved_line : ℕ → List ℕ → ℕ → List ℕ
-saved_line p name space = codes "saved " ++ in_decimal p ++ codes " " ++ name ++ codes " " ++ in_decimal space ++ codes "\n"
-
--- any other change
-abbrev pub done_line : List ℕ
-done_line = codes "ok\n"
-
-abbrev pub refused_line : Code → List ℕ
-refused_line code = codes "refused " ++ code_text code ++ codes "\n"
-
--- a command that would need more units than there are: the units that it would come to, and the limit
-abbrev pub full_line : ℕ → ℕ → List ℕ
-full_line units limit = codes "full " ++ in_decimal units ++ codes " " ++ in_decimal limit ++ codes "\n"
+-- Lines of the report, beside those of answers and turns. Each ends with the byte 0A; its words are divided by
+-- one blank.
 
 -- the first line of a script that is outside, from 1
 abbrev pub bad_line : ℕ → List ℕ
 bad_line k = codes "bad line " ++ in_decimal k ++ codes "\n"
-
--- what a process wrote to a port: to port 1 it goes out, to port 2 it is an error
-abbrev pub wrote_line : ℕ → ℕ → List ℕ → List ℕ
-wrote_line p port bytes =
-    (if port == 1 then codes "out " else codes "err ") ++ in_decimal p ++ codes " " ++ flat_map byte_text bytes ++ codes "\n"
-
-abbrev pub exited_line : ℕ → ℕ → List ℕ
-exited_line p exit = codes "exited " ++ in_decimal p ++ codes " " ++ in_decimal exit ++ codes "\n"
-
-abbrev pub faulted_line : ℕ → FaultKind → ℕ → List ℕ
-faulted_line p kind at = codes "faulted " ++ in_decimal p ++ codes " " ++ kind_text kind ++ codes " " ++ address_text at ++ codes "\n"
-
--- an instruction that would need more units than there are
-abbrev pub full_turn_line : ℕ → ℕ → ℕ → List ℕ
-full_turn_line p units limit =
-    codes "full " ++ in_decimal p ++ codes " " ++ in_decimal units ++ codes " " ++ in_decimal limit ++ codes "\n"
-
--- a breakpoint that was reached
-abbrev pub break_line : ℕ → ℕ → List ℕ
-break_line p at = codes "break " ++ in_decimal p ++ codes " " ++ address_text at ++ codes "\n"
 
 -- the end of turns: how many were counted, and why they ended
 abbrev pub ran_line : ℕ → Stop → List ℕ
@@ -88,7 +44,8 @@ regs_line p state speculating = codes "regs " ++ in_decimal p ++ codes " " ++ st
 
 -- a register, by its number; the pc stands in the place of x0
 abbrev pub register_line : ℕ → ℕ → List ℕ
-register_line i value = (if i == 0 then codes "pc" else codes "x" ++ in_decimal i) ++ codes " " ++ word_text value ++ codes "\n"
+register_line i value =
+    (if i == 0 then codes "pc" else codes "x" ++ in_decimal i) ++ codes " " ++ word_text value ++ codes "\n"
 
 -- bytes of memory, for each a blank and its two hexadecimal digits, behind the address of the first
 abbrev pub dump_line : ℕ → List ℕ → List ℕ

@@ -1,8 +1,10 @@
 ghost use Rattle.std.specs.Prelude.{◌≡◌, ◌+◌, ◌*◌, ◌==◌, ◌||◌, ◌≤◌, ◌++◌, codes, length, IsTrue, if◌then◌else◌};
 ghost use Rattle.arrayvec.specs.ArrayVec.{array_vec_len};
-ghost use Rattle.report_text.specs.Digits.{in_decimal};
-ghost use Rattle.report_text.specs.Lines.{loaded_line, forked_line, saved_line, refused_line, full_line, bad_line, wrote_line, exited_line, faulted_line, full_turn_line, break_line, ran_line, list_line, process_line, checkpoint_line, stats_line, regs_line, register_line, dump_line, disasm_line_by};
-ghost use Rattle.report_text.specs.Answers.{IsCheckpointName, HasCodeLine};
+ghost use Rattle.report_text.specs.Digits.{address_text, in_decimal};
+ghost use Rattle.report_text.specs.Lines.{bad_line, ran_line, list_line, process_line, checkpoint_line, stats_line, regs_line, register_line, dump_line, disasm_line_by};
+ghost use Rattle.report_text.specs.declared.answer.Answer.TheVariants as answer;
+ghost use Rattle.ovl_io.specs.declared.turn.Turn.TheVariants as turn;
+ghost use Rattle.report_text.specs.Answers.{IsCheckpointName, HasCodeLine, answer_text, turn_text};
 
 use crate::instructions::push_instruction;
 use crate::names::{kind_text, port_text, push_code, push_pages, push_state, stop_word};
@@ -18,7 +20,7 @@ use rv_decode::Decoder;
 /// A load.
 pub(crate) fn put_loaded(line: &mut Line, p: u16, pages: u32, entry: u64)
     requires { array_vec_len line.old + 256 ≤ LINE_ROOM }
-    ensures text { line.new.items ≡ line.old.items ++ loaded_line p pages entry }
+    ensures text { line.new.items ≡ line.old.items ++ answer_text (answer.Loaded p pages entry) }
     ensures len { array_vec_len line.new ≤ array_vec_len line.old + 256 }
 {
     push_text(line, b"loaded ");
@@ -32,7 +34,7 @@ pub(crate) fn put_loaded(line: &mut Line, p: u16, pages: u32, entry: u64)
 /// A fork.
 pub(crate) fn put_forked(line: &mut Line, p: u16, new: u16)
     requires { array_vec_len line.old + 256 ≤ LINE_ROOM }
-    ensures text { line.new.items ≡ line.old.items ++ forked_line p new }
+    ensures text { line.new.items ≡ line.old.items ++ answer_text (answer.Forked p new) }
     ensures len { array_vec_len line.new ≤ array_vec_len line.old + 256 }
 {
     push_text(line, b"forked ");
@@ -46,7 +48,7 @@ pub(crate) fn put_forked(line: &mut Line, p: u16, new: u16)
 pub(crate) fn put_saved(line: &mut Line, p: u16, name: &[u8], space: u16)
     requires room { array_vec_len line.old + 256 ≤ LINE_ROOM }
     requires named { IsCheckpointName name.now }
-    ensures text { line.new.items ≡ line.old.items ++ saved_line p name.now space }
+    ensures text { line.new.items ≡ line.old.items ++ answer_text (answer.Saved p name.now space) }
     ensures len { array_vec_len line.new ≤ array_vec_len line.old + 256 }
 {
     push_text(line, b"saved ");
@@ -62,7 +64,7 @@ pub(crate) fn put_saved(line: &mut Line, p: u16, name: &[u8], space: u16)
 pub(crate) fn put_refused(line: &mut Line, code: Code)
     requires room { array_vec_len line.old + 256 ≤ LINE_ROOM }
     requires has { HasCodeLine code }
-    ensures text { line.new.items ≡ line.old.items ++ refused_line code }
+    ensures text { line.new.items ≡ line.old.items ++ answer_text (answer.Refused code) }
     ensures len { array_vec_len line.new ≤ array_vec_len line.old + 256 }
 {
     push_text(line, b"refused ");
@@ -73,7 +75,7 @@ pub(crate) fn put_refused(line: &mut Line, code: Code)
 /// A command that is refused units.
 pub(crate) fn put_full(line: &mut Line, units: u32, limit: u32)
     requires { array_vec_len line.old + 256 ≤ LINE_ROOM }
-    ensures text { line.new.items ≡ line.old.items ++ full_line units limit }
+    ensures text { line.new.items ≡ line.old.items ++ answer_text (answer.Full units limit) }
     ensures len { array_vec_len line.new ≤ array_vec_len line.old + 256 }
 {
     push_text(line, b"full ");
@@ -98,7 +100,7 @@ pub(crate) fn put_bad(line: &mut Line, k: u32)
 pub(crate) fn put_wrote(line: &mut Line, p: u16, port: u8, bytes: &[u8])
     requires room { array_vec_len line.old + 3 * length bytes.now + 256 ≤ LINE_ROOM }
     requires port { IsTrue (port == 1 || port == 2) }
-    ensures { line.new.items ≡ line.old.items ++ wrote_line p port bytes.now }
+    ensures { line.new.items ≡ line.old.items ++ turn_text p (turn.Wrote (port, bytes.now)) }
 {
     push_text(line, port_text(port));
     push_decimal(line, u64::from(p));
@@ -110,7 +112,7 @@ pub(crate) fn put_wrote(line: &mut Line, p: u16, port: u8, bytes: &[u8])
 /// An exit.
 pub(crate) fn put_exited(line: &mut Line, p: u16, code: u8)
     requires { array_vec_len line.old + 256 ≤ LINE_ROOM }
-    ensures text { line.new.items ≡ line.old.items ++ exited_line p code }
+    ensures text { line.new.items ≡ line.old.items ++ turn_text p (turn.Exited code) }
     ensures len { array_vec_len line.new ≤ array_vec_len line.old + 256 }
 {
     push_text(line, b"exited ");
@@ -123,7 +125,7 @@ pub(crate) fn put_exited(line: &mut Line, p: u16, code: u8)
 /// A fault.
 pub(crate) fn put_faulted(line: &mut Line, p: u16, kind: FaultKind, address: u64)
     requires { array_vec_len line.old + 256 ≤ LINE_ROOM }
-    ensures text { line.new.items ≡ line.old.items ++ faulted_line p kind address }
+    ensures text { line.new.items ≡ line.old.items ++ turn_text p (turn.Faulted kind address) }
     ensures len { array_vec_len line.new ≤ array_vec_len line.old + 256 }
 {
     push_text(line, b"faulted ");
@@ -138,7 +140,7 @@ pub(crate) fn put_faulted(line: &mut Line, p: u16, kind: FaultKind, address: u64
 /// An instruction that is refused units.
 pub(crate) fn put_full_turn(line: &mut Line, p: u16, units: u32, limit: u32)
     requires { array_vec_len line.old + 256 ≤ LINE_ROOM }
-    ensures text { line.new.items ≡ line.old.items ++ full_turn_line p units limit }
+    ensures text { line.new.items ≡ line.old.items ++ turn_text p (turn.Full units limit) }
     ensures len { array_vec_len line.new ≤ array_vec_len line.old + 256 }
 {
     push_text(line, b"full ");
@@ -153,7 +155,8 @@ pub(crate) fn put_full_turn(line: &mut Line, p: u16, units: u32, limit: u32)
 /// A breakpoint that was reached.
 pub(crate) fn put_break(line: &mut Line, p: u16, address: u64)
     requires { array_vec_len line.old + 256 ≤ LINE_ROOM }
-    ensures text { line.new.items ≡ line.old.items ++ break_line p address }
+    ensures text { line.new.items ≡ line.old.items ++ codes "break " ++ in_decimal p ++ codes " "
+        ++ address_text address ++ codes "\n" }
     ensures len { array_vec_len line.new ≤ array_vec_len line.old + 256 }
 {
     push_text(line, b"break ");
