@@ -4,3 +4,4 @@ pub mod Reaching
 pub mod Loading
 pub mod Deciding
 pub mod Texts
+mod Examples
