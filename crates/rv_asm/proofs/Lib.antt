@@ -1,4 +1,5 @@
 pub mod Labelling
+pub mod Unlabelled
 pub mod Coding
 pub mod Reaching
 pub mod Loading
