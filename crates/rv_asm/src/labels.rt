@@ -28,7 +28,8 @@ fn put_label<'a>(
     n: u32,
     name: &'a [u8],
 ) -> Result<(), AsmError>
-    ensures { Puts (said_labels labels.new.entries) (with_label k n (said_labels labels.old.entries) (Some name.now)) result }
+    ensures { Puts (said_labels labels.new.entries)
+        (with_label k n (said_labels labels.old.entries) (Some name.now)) result }
 {
     match labels.insert(name, n) {
         Ok(Some(_)) => Err(AsmError::Twice(k)),
@@ -44,7 +45,8 @@ fn with_label<'a>(
     n: u32,
     label: Option<&'a [u8]>,
 ) -> Result<(), AsmError>
-    ensures { Puts (said_labels labels.new.entries) (with_label k n (said_labels labels.old.entries) (said_label label.entry)) result }
+    ensures { Puts (said_labels labels.new.entries)
+        (with_label k n (said_labels labels.old.entries) (said_label label.entry)) result }
 {
     match label {
         Some(name) => put_label(labels, k, n, name),
