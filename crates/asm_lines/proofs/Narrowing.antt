@@ -1,8 +1,7 @@
-use Rattle.std.proofs.Common.{◌≡◌, ℕ, ◌==◌, ◌&&◌, Bool, true, false, cond, List, [], ◌∷◌, length, get_or, ap, sym, ◌∙◌, refl, Some, None, subst}
-use Rattle.std.specs.Prelude.{Option, find, nat_eq}
+use Rattle.std.proofs.Common.{◌≡◌, ℕ, ◌==◌, ◌&&◌, Bool, true, false, cond, List, [], ◌∷◌, length, get_or, ap, sym, ◌∙◌, refl, Some}
+use Rattle.std.specs.Prelude.{find, nat_eq}
 use Rattle.std.specs.List.{filter}
 use Rattle.std.proofs.lemmas.Bool.{eq-eqb, eqb-true, and_parts, and_from}
-use lib.Pointwise.{pointwise}
 use Rattle.rv_decode.specs.declared.names.Name.{Name}
 use Rattle.rv_decode.specs.Table.{text_of}
 use Rattle.asm_lines.specs.Kinds.{is_text, base_names, name_word}

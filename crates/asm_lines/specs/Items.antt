@@ -60,34 +60,52 @@ abbrev pub going : (ℤ → Instr) → Target → Item
 going make (By n) = Plain (make n)
 going make (To label) = Reaching (make (pos 0)) label
 
--- the operands of the rows of the format I; `fence` has none and is the word that orders all accesses
+-- three registers
+abbrev pub register_item : Name → List (List ℕ) → Option Item
+register_item name ws =
+    option_map (λ p. Plain (instr name p.0 p.1 p.2 (pos 0))) (triple register_word register_word register_word ws)
+
+-- two registers and an immediate: arithmetic and shifts
+abbrev pub immediate_item : Format → Name → List (List ℕ) → Option Item
+immediate_item format name ws =
+    option_map (λ p. Plain (instr name p.0 p.1 0 p.2)) (triple register_word register_word (immediate_word format) ws)
+
+-- a register and an address: loads, and the jump to a register
+abbrev pub load_item : Name → List (List ℕ) → Option Item
+load_item name ws = option_map (λ p. Plain (instr name p.0 p.1.1 0 p.1.0)) (pair register_word (offset_word format.I) ws)
+
+abbrev pub store_item : Name → List (List ℕ) → Option Item
+store_item name ws = option_map (λ p. Plain (instr name 0 p.1.1 p.0 p.1.0)) (pair register_word (offset_word format.S) ws)
+
+-- two registers and where a branch goes
+abbrev pub branch_item : Name → List (List ℕ) → Option Item
+branch_item name ws =
+    option_map (λ p. going (instr name 0 p.0 p.1) p.2) (triple register_word register_word (target_word format.B) ws)
+
+-- a register, and an immediate or where a jump goes
+abbrev pub upper_item : Name → List (List ℕ) → Option Item
+upper_item name ws = option_map (λ p. Plain (instr name p.0 0 0 p.1)) (pair register_word (immediate_word format.U) ws)
+
+abbrev pub jump_item : Name → List (List ℕ) → Option Item
+jump_item name ws = option_map (λ p. going (instr name p.0 0 0) p.1) (pair register_word (target_word format.J) ws)
+
+-- the rows of the format I, by their opcode; `fence` has no operands and is the word that orders all accesses
 abbrev pub i_item : Name → CaseRow → List (List ℕ) → Option Item
 i_item name row ws =
-    if opcode row == 0x03 || opcode row == 0x67
-    then option_map (λ p. Plain (instr name p.0 p.1.1 0 p.1.0)) (pair register_word (offset_word format.I) ws)
+    if opcode row == 0x03 || opcode row == 0x67 then load_item name ws
     else if opcode row == 0x0F then at_end (Raw 0x0FF0000F) ws
-    else option_map (λ p. Plain (instr name p.0 p.1 0 p.2)) (triple register_word register_word (immediate_word format.I) ws)
-
--- two registers and an amount: the rows of the formats H6 and H5
-abbrev pub shift_item : Format → Name → List (List ℕ) → Option Item
-shift_item format name ws =
-    option_map (λ p. Plain (instr name p.0 p.1 0 p.2)) (triple register_word register_word (immediate_word format) ws)
+    else immediate_item format.I name ws
 
 -- the operands of a row, by its format
 abbrev pub item_by : Format → Name → CaseRow → List (List ℕ) → Option Item
-item_by format.R name row ws =
-    option_map (λ p. Plain (instr name p.0 p.1 p.2 (pos 0))) (triple register_word register_word register_word ws)
+item_by format.R name row ws = register_item name ws
 item_by format.I name row ws = i_item name row ws
-item_by format.S name row ws =
-    option_map (λ p. Plain (instr name 0 p.1.1 p.0 p.1.0)) (pair register_word (offset_word format.S) ws)
-item_by format.B name row ws =
-    option_map (λ p. going (instr name 0 p.0 p.1) p.2) (triple register_word register_word (target_word format.B) ws)
-item_by format.U name row ws =
-    option_map (λ p. Plain (instr name p.0 0 0 p.1)) (pair register_word (immediate_word format.U) ws)
-item_by format.J name row ws =
-    option_map (λ p. going (instr name p.0 0 0) p.1) (pair register_word (target_word format.J) ws)
-item_by format.H6 name row ws = shift_item format.H6 name ws
-item_by format.H5 name row ws = shift_item format.H5 name ws
+item_by format.S name row ws = store_item name ws
+item_by format.B name row ws = branch_item name ws
+item_by format.U name row ws = upper_item name ws
+item_by format.J name row ws = jump_item name ws
+item_by format.H6 name row ws = immediate_item format.H6 name ws
+item_by format.H5 name row ws = immediate_item format.H5 name ws
 item_by format.N name row ws = at_end (Plain (instr name 0 0 0 (pos 0))) ws
 
 abbrev pub item_of_row : Name → List (List ℕ) → Option Item

@@ -1,19 +1,14 @@
-use Rattle.std.specs.Prelude.{ℕ, ◌-◌, ◌^◌, ◌==◌, ◌&&◌, ◌||◌, nat_le, nat_eq, Bool, false, ℤ, pos, neg_ℤ, ◌*ℤ◌, int_le, int_lt, int_rem, unsigned_abs, List, [], ◌∷◌, length, Option, Some, None, if◌then◌else◌, find}
+use Rattle.std.specs.Prelude.{ℕ, ◌-◌, ◌^◌, ◌==◌, ◌&&◌, ◌||◌, nat_le, Bool, false, ℤ, pos, neg_ℤ, ◌*ℤ◌, int_le, int_lt, int_rem, unsigned_abs, List, [], ◌∷◌, length, Option, Some, None, if◌then◌else◌, find}
 use Rattle.std.specs.Option.{option_map}
 use Rattle.std.specs.List.{filter, list_all}
-use lib.Pointwise.{pointwise}
+pub use Rattle.script_text.specs.Kinds.{Kind, is_text}
 use Rattle.script_text.specs.Numbers.{is_decimal, spelled, within, number_between}
 use Rattle.rv_decode.specs.declared.names.Format.{Format}
 use Rattle.rv_decode.specs.declared.names.Format.TheVariants as format
 use Rattle.rv_decode.specs.declared.names.Name.{Name}
 use Rattle.rv_decode.specs.Table.{all_names, is_base, text_of}
 
--- The kinds of words. A kind is what it makes of a word: what the word says, or nothing where it is none of the kind.
-abbrev pub Kind : Type 0 → Type 0
-Kind A = List ℕ → Option A
-
-abbrev pub is_text : List ℕ → List ℕ → Bool
-is_text word text = pointwise nat_eq word text
+-- The kinds of words.
 
 -- what a value that may be missing is made of
 abbrev pub and_then : {A B : Type 0} → Option A → (A → Option B) → Option B

@@ -1,12 +1,10 @@
-ghost use Rattle.std.specs.Prelude.{◌≡◌, ◌∷◌, Some, None, Option, pos};
-ghost use Rattle.asm_lines.specs.Items.Item.{Plain};
+ghost use Rattle.std.specs.Prelude.{◌≡◌, Option, pos};
 ghost use Rattle.std.specs.Option.{option_map};
-ghost use Rattle.rv_decode.specs.declared.names.Format.TheVariants.{I, S, B, U, J};
 ghost use Rattle.rv_decode.specs.Table.{row_of};
 ghost use Rattle.report_text.specs.Instructions.{opcode};
 ghost use Rattle.asm_lines.specs.Words.{words};
 ghost use Rattle.asm_lines.specs.Kinds.{Kind, and_then, register_word, immediate_word, offset_word, target_word};
-ghost use Rattle.asm_lines.specs.Items.{at_end, pair, triple, instr, going, item_by, shift_item, i_item, item_of_row, item_in, raw_item};
+ghost use Rattle.asm_lines.specs.Items.{at_end, pair, triple, instr, going, register_item, immediate_item, load_item, store_item, branch_item, upper_item, jump_item, i_item, item_by, item_of_row, item_in, raw_item};
 ghost use Rattle.asm_lines.specs.Said.{said, said_target, said_branch, said_jump};
 
 use crate::kinds::{immediate_word, is_label, offset_word, register_word};
@@ -51,7 +49,8 @@ fn target_word<'a>(format: Format, word: &'a [u8]) -> Option<Target<'a>>
 
 /// What two words say that are registers.
 fn two_registers(a: &[u8], b: &[u8]) -> Option<(u8, u8)>
-    ensures { result ≡ and_then (register_word a.now) (λ a. option_map (λ b. (a, b)) (register_word b.now)) }
+    ensures { result ≡ and_then (register_word a.now)
+        (λ a. option_map (λ b. (a, b)) (register_word b.now)) }
 {
     match register_word(a) {
         Some(a) => match register_word(b) {
@@ -96,7 +95,8 @@ fn two_and_immediate(format: Format, text: &[u8]) -> Option<(u8, u8, i64)>
 
 /// Two registers and where a branch goes.
 fn two_and_target<'a>(format: Format, text: &'a [u8]) -> Option<(u8, u8, Target<'a>)>
-    ensures { option_map said_branch result ≡ triple register_word register_word (target_word format) (words text.now) }
+    ensures { option_map said_branch result
+        ≡ triple register_word register_word (target_word format) (words text.now) }
 {
     match three_words(text) {
         Some((a, b, t)) => match two_registers(a, b) {
@@ -190,8 +190,9 @@ fn at_end<'a>(item: Item<'a>, text: &'a [u8]) -> Option<Item<'a>>
     if no_words(text) { Some(item) } else { None }
 }
 
-fn r_item<'a>(name: Name, text: &'a [u8]) -> Option<Item<'a>>
-    ensures { option_map said result ≡ option_map (λ p. Plain (instr name p.0 p.1 p.2 (pos 0))) (triple register_word register_word register_word (words text.now)) }
+/// Three registers.
+fn register_item<'a>(name: Name, text: &'a [u8]) -> Option<Item<'a>>
+    ensures { option_map said result ≡ register_item name (words text.now) }
 {
     match three_registers(text) {
         Some((rd, rs1, rs2)) => Some(Item::Plain(Instr {
@@ -207,7 +208,7 @@ fn r_item<'a>(name: Name, text: &'a [u8]) -> Option<Item<'a>>
 
 /// Two registers and an immediate: arithmetic and shifts.
 fn immediate_item<'a>(format: Format, name: Name, text: &'a [u8]) -> Option<Item<'a>>
-    ensures { option_map said result ≡ shift_item format name (words text.now) }
+    ensures { option_map said result ≡ immediate_item format name (words text.now) }
 {
     match two_and_immediate(format, text) {
         Some((rd, rs1, imm)) => Some(Item::Plain(Instr {
@@ -223,7 +224,7 @@ fn immediate_item<'a>(format: Format, name: Name, text: &'a [u8]) -> Option<Item
 
 /// A load, and the jump to a register.
 fn load_item<'a>(name: Name, text: &'a [u8]) -> Option<Item<'a>>
-    ensures { option_map said result ≡ option_map (λ p. Plain (instr name p.0 p.1.1 0 p.1.0)) (pair register_word (offset_word I) (words text.now)) }
+    ensures { option_map said result ≡ load_item name (words text.now) }
 {
     match one_and_offset(Format::I, text) {
         Some((rd, (imm, rs1))) => Some(Item::Plain(Instr {
@@ -237,8 +238,9 @@ fn load_item<'a>(name: Name, text: &'a [u8]) -> Option<Item<'a>>
     }
 }
 
+/// A register and the address that it is stored at.
 fn store_item<'a>(name: Name, text: &'a [u8]) -> Option<Item<'a>>
-    ensures { option_map said result ≡ option_map (λ p. Plain (instr name 0 p.1.1 p.0 p.1.0)) (pair register_word (offset_word S) (words text.now)) }
+    ensures { option_map said result ≡ store_item name (words text.now) }
 {
     match one_and_offset(Format::S, text) {
         Some((rs2, (imm, rs1))) => Some(Item::Plain(Instr {
@@ -252,8 +254,9 @@ fn store_item<'a>(name: Name, text: &'a [u8]) -> Option<Item<'a>>
     }
 }
 
+/// Two registers and where a branch goes.
 fn branch_item<'a>(name: Name, text: &'a [u8]) -> Option<Item<'a>>
-    ensures { option_map said result ≡ option_map (λ p. going (instr name 0 p.0 p.1) p.2) (triple register_word register_word (target_word B) (words text.now)) }
+    ensures { option_map said result ≡ branch_item name (words text.now) }
 {
     match two_and_target(Format::B, text) {
         Some((rs1, rs2, target)) => Some(going(name, 0, rs1, rs2, target)),
@@ -261,8 +264,9 @@ fn branch_item<'a>(name: Name, text: &'a [u8]) -> Option<Item<'a>>
     }
 }
 
+/// A register and an upper immediate.
 fn upper_item<'a>(name: Name, text: &'a [u8]) -> Option<Item<'a>>
-    ensures { option_map said result ≡ option_map (λ p. Plain (instr name p.0 0 0 p.1)) (pair register_word (immediate_word U) (words text.now)) }
+    ensures { option_map said result ≡ upper_item name (words text.now) }
 {
     match one_and_immediate(Format::U, text) {
         Some((rd, imm)) => Some(Item::Plain(Instr {
@@ -276,8 +280,9 @@ fn upper_item<'a>(name: Name, text: &'a [u8]) -> Option<Item<'a>>
     }
 }
 
+/// A register and where a jump goes.
 fn jump_item<'a>(name: Name, text: &'a [u8]) -> Option<Item<'a>>
-    ensures { option_map said result ≡ option_map (λ p. going (instr name p.0 0 0) p.1) (pair register_word (target_word J) (words text.now)) }
+    ensures { option_map said result ≡ jump_item name (words text.now) }
 {
     match one_and_target(Format::J, text) {
         Some((rd, target)) => Some(going(name, rd, 0, 0, target)),
@@ -311,7 +316,7 @@ fn item_by<'a>(name: Name, row: CaseRow, text: &'a [u8]) -> Option<Item<'a>>
     ensures { option_map said result ≡ item_by row.format name row (words text.now) }
 {
     match row.format {
-        Format::R => r_item(name, text),
+        Format::R => register_item(name, text),
         Format::I => i_item(name, row, text),
         Format::S => store_item(name, text),
         Format::B => branch_item(name, text),

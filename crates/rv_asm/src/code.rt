@@ -73,7 +73,9 @@ fn put_item<'a>(
 ) -> Result<(), AsmError>
     requires room { coded.old.items + 1 < 2 ^ 32 }
     requires sound { IfSome item (λ item. IsSound (said item)) }
-    ensures { Notes (with_outcome (said_labels labels.now.entries) line coded.old.items (Some (option_map said item.entry)) []) coded.old coded.new result }
+    ensures { Notes
+        (with_outcome (said_labels labels.now.entries) line coded.old.items (Some (option_map said item.entry)) [])
+        coded.old coded.new result }
 {
     match item {
         Some(item) => {

@@ -1,4 +1,5 @@
-ghost use Rattle.std.specs.Prelude.{◌≡◌, ◌≤◌, ◌+◌, length};
+ghost use Rattle.std.specs.Prelude.{◌≡◌, ◌≤◌, ◌==◌, length};
+ghost use Rattle.std.specs.List.{list_any};
 ghost use Rattle.asm_lines.specs.Lines.{lines_in};
 ghost use Rattle.asm_lines.specs.Said.{said_label};
 ghost use Rattle.rv_asm.specs.Labels.{labels_of, with_label, place_of};
@@ -27,7 +28,8 @@ fn put_label<'a>(
     n: u32,
     name: &'a [u8],
 ) -> Result<(), AsmError>
-    ensures { Puts (said_labels labels.new.entries) (with_label k n (said_labels labels.old.entries) (Some name.now)) result }
+    ensures { Puts (said_labels labels.new.entries)
+        (with_label k n (said_labels labels.old.entries) (Some name.now)) result }
 {
     match labels.insert(name, n) {
         Ok(Some(_)) => Err(AsmError::Twice(k)),
@@ -43,7 +45,8 @@ fn with_label<'a>(
     n: u32,
     label: Option<&'a [u8]>,
 ) -> Result<(), AsmError>
-    ensures { Puts (said_labels labels.new.entries) (with_label k n (said_labels labels.old.entries) (said_label label.entry)) result }
+    ensures { Puts (said_labels labels.new.entries)
+        (with_label k n (said_labels labels.old.entries) (said_label label.entry)) result }
 {
     match label {
         Some(name) => put_label(labels, k, n, name),
@@ -58,11 +61,8 @@ pub(crate) fn place_of<'a>(labels: &IndexMap<&'a [u8], u32>, name: &'a [u8]) -> 
     labels.get(name).copied()
 }
 
-/// The labels of a text, each with the number of the item behind it, or the first line whose label stands before it.
-pub(crate) fn labels_of<'a>(
-    alloc: Global,
-    text: &'a [u8],
-) -> Result<IndexMap<&'a [u8], u32>, AsmError>
+/// The labels of a text that has a colon.
+fn labels_with<'a>(alloc: Global, text: &'a [u8]) -> Result<IndexMap<&'a [u8], u32>, AsmError>
     requires { length text.now ≤ MOST_TEXT_BYTES }
     ensures { GivesLabels (λ m. said_labels m.entries) (labels_of (lines_in text.now)) result }
 {
@@ -85,4 +85,26 @@ pub(crate) fn labels_of<'a>(
         rest = behind;
     }
     Ok(labels)
+}
+
+/// Whether a text has a colon.
+fn has_colon(text: &[u8]) -> bool
+    ensures { result ≡ list_any (λ b. b == 58) text.now }
+{
+    text.iter().any(|b| *b == b':')
+}
+
+/// The labels of a text, each with the number of the item behind it, or the first line whose label stands before it.
+pub(crate) fn labels_of<'a>(
+    alloc: Global,
+    text: &'a [u8],
+) -> Result<IndexMap<&'a [u8], u32>, AsmError>
+    requires { length text.now ≤ MOST_TEXT_BYTES }
+    ensures { GivesLabels (λ m. said_labels m.entries) (labels_of (lines_in text.now)) result }
+{
+    if has_colon(text) {
+        labels_with(alloc, text)
+    } else {
+        Ok(IndexMap::new(alloc))
+    }
 }

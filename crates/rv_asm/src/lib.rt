@@ -18,6 +18,8 @@ mod error;
 mod file;
 mod labels;
 mod outcomes;
+#[cfg(test)]
+mod tests;
 
 pub use assembly::assemble;
 pub use error::AsmError;

@@ -2,7 +2,7 @@ use Rattle.std.proofs.Common.{◌≡◌, ◌+◌, ◌≤◌, length}
 use Rattle.asm_lines.specs.Lines.{lines_in}
 use Rattle.rv_asm.specs.Labels.{labels_of, labels_from}
 use Rattle.rv_asm.specs.Given.{said_labels}
-use Rattle.rv_asm.proofs.labels.labels_of.Given as goal
+use Rattle.rv_asm.proofs.labels.labels_with.Given as goal
 
 -- the labels so far, and those of the lines that are left
 abbrev pub invariant-lines : goal.invariant-lines
