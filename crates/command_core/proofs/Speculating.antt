@@ -183,9 +183,8 @@ module _ (p : ℕ) (process : declared.Process) (old : Machine) (memory : Transl
       let kept = kept_by None false (base_of (state_of memory) p) s.marked refl in
       let is : whole_in (state_of memory) p forgotten ≡ after_commit before =
       λ i. record { registers = process.regs; state = process.state; memory = s.memory i; kept = kept i } in
-      let ledger = subst (AreAlike (books (state_of memory))) has.ledger (alike_itself (books (state_of memory))) in
       machine_done (ends Commit) old (with_process_at mid p forgotten) (λ r. end_refusal true marked) (λ kept breaks. refl) (λ r. refl)
-      (λ kept breaks. wholes_are (event.Commit p) forgotten (after_commit before) is s.others (Some p) ledger s.frames lists) (λ r. refl) (λ r. refl)
+      (λ kept breaks. wholes_are (event.Commit p) forgotten (after_commit before) is s.others (Some p) has.ledger s.frames lists) (λ r. refl) (λ r. refl)
       (stays (event.Commit p) forgotten (after_commit before) is s.others (Some p) lists s.spaces s.awaiting (λ h. s.marked))
 
   pub not_committed : (e : SpeculationError) → Commits old.memory memory p (Err e) → ChangesProcess p Commit process old (speculation_answer e) mid

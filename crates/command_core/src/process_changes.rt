@@ -108,6 +108,7 @@ fn speculate_process(machine: &mut Machine, p: u16, process: Process) -> Answer
 fn commit_process(machine: &mut Machine, p: u16, process: Process) -> Answer
     requires there { get machine.old.processes p ≡ Some process }
     requires space { has_space machine.old p ≡ true }
+    requires none_awaits { (space_in (spaces_of machine.old) p).awaiting ≡ empty }
     ensures done { ChangesProcess p ProcessChange.Commit process machine.old result machine.new }
     ensures told { CanBeTold result }
 {

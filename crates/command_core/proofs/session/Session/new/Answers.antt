@@ -31,10 +31,10 @@ returns-clause-stands c =
 
 pub invariant_of-result : goal.invariant_of-result
 invariant_of-result c =
-    let numbers = c.in_ok-new-4.field-0 in (
+    let numbers = c.in_ok-new-2.field-0 in (
       subst (λ xs. IsSession c.in_ok-new.field-0 (spaces_kept xs) numbers) (sym c.new-2.ensures)
           (session_start c.in_ok-new.field-0 (record { frames = c.args.frames; quantum = c.args.quantum }) c.in_ok-new.ensures.spaces c.in_ok-new.ensures.processes
-          numbers c.in_ok-new-4.ensures c.in_ok-new.ensures.lists),
+          numbers c.in_ok-new-2.ensures c.in_ok-new.ensures.lists),
       c.requires.quantum,
       λ p gone. ap (λ (breaks : Breaks). get breaks p) c.new-3.ensures ∙ get-empty nat_cmp p,
     )
