@@ -11,14 +11,14 @@ use Rattle.ledger.specs.AlikeLaws.{alike_chain, alike_itself}
 use Rattle.ledger.specs.Ledger.{Ledger}
 use Rattle.ledger.specs.Touched.{touched}
 use Rattle.ledger.specs.Units.{units}
-use Rattle.overlay_pages.specs.State.{State, books, memory_of}
+use Rattle.overlay_pages.specs.State.{State, base_of, books, memory_of}
 use Rattle.overlay_pages.specs.Changes.{limit_of}
 use Rattle.overlay_pages.specs.View.{MemoryView, state_of}
 use Rattle.overlay_memory.specs.declared.error.MemoryError.{MemoryError}
 use Rattle.overlay_memory.specs.declared.error.MemoryError.TheVariants.{Unmapped, Forbidden, Full}
 use Rattle.overlay_memory.specs.declared.error.Shortage.{Shortage}
-use Rattle.overlay_memory.specs.Access.{IsAllowed, IsForbiddenAt, IsStored, IsUnmappedAt, Reads, Stores, stored_books}
-use Rattle.overlay_memory.specs.Pieces.{IsFilled, came_of, result_at}
+use Rattle.overlay_memory.specs.Access.{IsAllowed, IsForbiddenAt, IsStored, IsUnmappedAt, IsUntouched, Reads, Stores, stored_books}
+use Rattle.overlay_memory.specs.Pieces.{IsFilled, KeepsAllElse, came_of, result_at}
 use Rattle.overlay_memory.specs.Room.{IsShort}
 use Rattle.overlay_memory.specs.StateMemory.{beside_both}
 use Rattle.space_maps.specs.Spaces.{space_in}
@@ -53,44 +53,47 @@ stored_none view s address [] none = (
 )
 stored_none view s address (b ∷ bytes) none = absurd (omega (arith, none))
 
+-- what a store says beside what it keeps
+stored_with : (a d : State) (s address : ℕ) (bytes : List ℕ) → KeepsAllElse a d s → memory_of d s ≡ with_bytes (memory_of a s) address bytes
+    → AreAlike (books d) (stored_books a s address (length bytes)) → ((space_in a s).speculating ≡ true → base_of d s ≡ base_of a s)
+    → ((page : ℕ) → IsUntouched address (length bytes) page → get (base_of d s) page ≡ get (base_of a s) page) → IsStored a d s address bytes
+stored_with a d s address bytes beside memory ledger base bases = record {
+  memory = memory;
+  ledger = ledger;
+  base = base;
+  bases = bases;
+  permissions = beside.permissions;
+  awaiting = beside.awaiting;
+  mark = beside.mark;
+  others = beside.others;
+  spaces = beside.spaces;
+  frames = beside.frames;
+  zero_frame = beside.zero_frame;
+}
+
+-- a page in which a byte lies is touched
+elsewhere : (address page : ℕ) (bytes : List ℕ) → 0 < length bytes → IsUntouched address (length bytes) page → page ≡ address / PAGE_BYTES → ⊥
+elsewhere address page bytes some far same = let here : address + 0 ≡ address = omega arith in far 0 some (ap (λ a. a / PAGE_BYTES) here ∙ sym same)
+
 -- lines were brought, bytes were put, and then the page was settled
 pub stored_by : (a b c d : State) (s address : ℕ) (bytes : List ℕ) (joined row : Ledger) → 0 < length bytes → stored_books a s address (length bytes) ≡ row
     → HasBrought a b s joined → IsFilled b c s address bytes → HasSettled c d s (address / PAGE_BYTES) → AreAlike (books d) row → IsStored a d s address bytes
 stored_by a b c d s address bytes joined row some row_is one two last alike =
-    let beside = beside_both a c d s (beside_both a b c s one.beside two.beside) last.beside in
-    record {
-      memory = last.memory ∙ two.memory ∙ ap (λ m. with_bytes m address bytes) one.memory;
-      ledger = subst (AreAlike (books d)) (sym row_is) alike;
-      base = λ on. last.base (two.beside.mark ∙ one.beside.mark ∙ on) ∙ two.base (one.beside.mark ∙ on) ∙ one.base;
-      bases = λ page far. last.bases page (λ same. let here : address + 0 ≡ address = omega arith in far 0 some (ap (λ a. a / PAGE_BYTES) here ∙ sym same)) ∙ two.bases page far ∙ ap (λ m. get m page) one.base;
-      permissions = beside.permissions;
-      awaiting = beside.awaiting;
-      mark = beside.mark;
-      others = beside.others;
-      spaces = beside.spaces;
-      frames = beside.frames;
-      zero_frame = beside.zero_frame;
-    }
+    stored_with a d s address bytes (beside_both a c d s (beside_both a b c s one.beside two.beside) last.beside)
+    (last.memory ∙ two.memory ∙ ap (λ m. with_bytes m address bytes) one.memory)
+    (subst (AreAlike (books d)) (sym row_is) alike)
+    (λ on. last.base (two.beside.mark ∙ one.beside.mark ∙ on) ∙ two.base (one.beside.mark ∙ on) ∙ one.base)
+    (λ page far. last.bases page (elsewhere address page bytes some far) ∙ two.bases page far ∙ ap (λ m. get m page) one.base)
 
 -- the page was settled, and then bytes were put
 pub stored_first : (a c d : State) (s address : ℕ) (bytes : List ℕ) (row : Ledger) → 0 < length bytes → stored_books a s address (length bytes) ≡ row
     → (space_in a s).speculating ≡ false → HasSettled a c s (address / PAGE_BYTES) → IsFilled c d s address bytes → AreAlike (books c) row → IsStored a d s address bytes
 stored_first a c d s address bytes row some row_is off first put alike =
-    let beside = beside_both a c d s first.beside put.beside in
-    record {
-      memory = put.memory ∙ ap (λ m. with_bytes m address bytes) first.memory;
-      ledger = subst (λ l. AreAlike l (stored_books a s address (length bytes))) (sym put.ledger) (subst (AreAlike (books c)) (sym row_is) alike);
-      base = λ on. cc;
-      bases = λ page far. put.bases page far
-          ∙ first.bases page (λ same. let here : address + 0 ≡ address = omega arith in far 0 some (ap (λ a. a / PAGE_BYTES) here ∙ sym same));
-      permissions = beside.permissions;
-      awaiting = beside.awaiting;
-      mark = beside.mark;
-      others = beside.others;
-      spaces = beside.spaces;
-      frames = beside.frames;
-      zero_frame = beside.zero_frame;
-    }
+    stored_with a d s address bytes (beside_both a c d s first.beside put.beside)
+    (put.memory ∙ ap (λ m. with_bytes m address bytes) first.memory)
+    (subst (λ l. AreAlike l (stored_books a s address (length bytes))) (sym put.ledger) (subst (AreAlike (books c)) (sym row_is) alike))
+    (λ on. cc)
+    (λ page far. put.bases page far ∙ first.bases page (elsewhere address page bytes some far))
 
 -- bytes were stored, and then those behind them
 pub stored_more : (a b c : State) (s address next : ℕ) (front rest : List ℕ) → next ≡ address + length front
