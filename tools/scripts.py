@@ -122,7 +122,7 @@ def described(kind):
 def forms():
     """The table of forms in its order: of each its first word and the kinds of the words behind it."""
     text = source("script_text", "specs", "Forms.antt")
-    rows = re.findall(r'form \(codes "([^"]+)"\) \((no_words|one_word|two_words|three_words|four_words)((?: \w+_word)*) [\w.]+\)', text)
+    rows = re.findall(r'form \(codes "([^"]+)"\) \((no_words|one_word|two_words|three_words|four_words)((?: \w+_word)*) (?:[\w.]+|\(λ [^()]*\))\)', text)
     unknown = sorted({kind for _, _, kinds in rows for kind in kinds.split()} - set(KINDS))
     if unknown or not rows:
         raise SystemExit(f"tools/scripts.py doesn't know these kinds of words: {', '.join(unknown)}" if unknown else "no forms were found")

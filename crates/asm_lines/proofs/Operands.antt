@@ -8,7 +8,7 @@ use Rattle.std.proofs.lemmas.Int.{ints}
 use Rattle.rv_decode.specs.declared.names.Format.{Format}
 use Rattle.rv_decode.specs.Encodable.{IsSignedBelow, IsMultiple}
 use Rattle.report_text.specs.Digits.{in_decimal, signed_text}
-use Rattle.report_text.specs.Instructions.{register_text, three_registers_text, two_registers_text, offset_text, one_register_text}
+use Rattle.report_text.specs.Instructions.{register_text, two_registers_text, offset_text, one_register_text}
 use Rattle.script_text.specs.Words.{has_bytes}
 use Rattle.script_text.specs.Numbers.{is_decimal}
 use Rattle.asm_lines.specs.Words.{is_inner, is_word, words}
@@ -123,8 +123,11 @@ triple_read {A} {B} {C} kind other third x y z a b c at_x at_y at_z =
     ∙ ap (option_map (λ c. (a, b, c))) at_z
 
 -- The four shapes of operands, read behind their texts.
+abbrev pub three_registers : ℕ → ℕ → ℕ → List ℕ
+three_registers a b c = codes " " ++ register_text a ++ codes ", " ++ register_text b ++ codes ", " ++ register_text c
+
 pub three_read : (a b c : ℕ) → a < 32 → b < 32 → c < 32
-    → triple register_word register_word register_word (words (three_registers_text a b c)) ≡ Some (a, b, c)
+    → triple register_word register_word register_word (words (three_registers a b c)) ≡ Some (a, b, c)
 three_read a b c at_a at_b at_c =
     ap (triple register_word register_word register_word) (words_three (register_text a) (register_text b) (register_text c) (register_is_word a) (register_is_word b) (register_is_word c))
     ∙ triple_read register_word register_word register_word (register_text a) (register_text b) (register_text c) a b c (register_read a at_a) (register_read b at_b) (register_read c at_c)

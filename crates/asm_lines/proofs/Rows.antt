@@ -1,6 +1,6 @@
-use Rattle.std.proofs.Common.{◌≡◌, ℕ, ◌^◌, ◌==◌, ◌||◌, ◌&&◌, not, Bool, true, false, cond, List, [], ◌∷◌, ap, sym, ◌∙◌, refl, subst, codes, Some, None, inl, inr, ◌≢◌}
+use Rattle.std.proofs.Common.{◌≡◌, ℕ, ◌^◌, ◌==◌, ◌||◌, ◌&&◌, not, Bool, true, false, cond, List, [], ◌∷◌, ◌++◌, ap, sym, ◌∙◌, refl, subst, codes, Some, None, inl, inr, ◌≢◌}
 use Rattle.std.specs.Prelude.{Option, ℤ, pos, int_div, IsTrue}
-use Rattle.std.specs.Option.{option_map}
+use Rattle.std.specs.Option.{option_map, option_map_or}
 use Rattle.std.proofs.lemmas.Bool.{not-true, and_parts, or_cases}
 use Rattle.rv_decode.specs.declared.instruction.Instr.{Instr}
 use Rattle.rv_decode.specs.declared.names.Format.{Format}
@@ -14,7 +14,7 @@ use Rattle.rv_decode.specs.Meaning.{Means, meaning}
 use Rattle.rv_decode.specs.MeaningLaws.{means-meaning}
 use Rattle.rv_decode.specs.TableLaws.{each_name}
 use Rattle.rv_decode.proofs.Decoded.{means_encodable}
-use Rattle.report_text.specs.Instructions.{register_text, three_registers_text, two_registers_text, offset_text, one_register_text, opcode, operands_by, meaning_text, instruction_text}
+use Rattle.report_text.specs.Instructions.{register_text, two_registers_text, offset_text, one_register_text, opcode, operands_by, instruction_text}
 use Rattle.asm_lines.specs.Words.{words, is_word, ends_word}
 use Rattle.asm_lines.specs.Kinds.{and_then, is_text, register_word, immediate_word, offset_word, target_word, name_word}
 use Rattle.asm_lines.specs.Kinds.Target.{By}
@@ -23,7 +23,7 @@ use Rattle.asm_lines.specs.Items.Item.{Plain, Raw}
 use Rattle.asm_lines.specs.Lines.{front, front_of, is_colon, item_behind, item_on}
 use Rattle.asm_lines.proofs.Spelling.{word_first, no_words, words_two, words_three}
 use Rattle.asm_lines.proofs.Decimals.{register_is_word, signed_is_word}
-use Rattle.asm_lines.proofs.Operands.{immediate_read, target_read, three_read, two_read, one_read, address_read, offset_at, offset_grouped, offset_is_word, signed_fits, placed_fit, upper_whole, upper_fits, even_fits, below_fits}
+use Rattle.asm_lines.proofs.Operands.{three_registers, immediate_read, target_read, three_read, two_read, one_read, address_read, offset_at, offset_grouped, offset_is_word, signed_fits, placed_fit, upper_whole, upper_fits, even_fits, below_fits}
 
 -- The text of an instruction is read as that instruction.
 
@@ -89,7 +89,7 @@ record StandsBehind (text : List ℕ) : Type 0 where
   pub ends : ends_word text ≡ true
   pub begins : BeginsItem (words text)
 
-three_behind : (a b c : ℕ) → StandsBehind (three_registers_text a b c)
+three_behind : (a b c : ℕ) → StandsBehind (three_registers a b c)
 three_behind a b c = record {
   ends = refl;
   begins = subst BeginsItem (sym (words_three (register_text a) (register_text b) (register_text c) (register_is_word a) (register_is_word b) (register_is_word c))) refl;
@@ -235,8 +235,16 @@ unfolding front_of
 front_alone w [] begins = refl
 front_alone w (c ∷ ws) begins = ap (λ (t : Bool). (cond t (front (Some w) ws) (front None (w ∷ c ∷ ws))).label) begins
 
+-- an instruction as it is printed
+abbrev pub printed : Instr → List ℕ
+printed i = text_of i.name ++ operands_by (row_of i.name).format (row_of i.name) i
+
+-- what a word means, as it is printed
+abbrev pub meaning_printed : Option Instr → List ℕ
+meaning_printed o = option_map_or printed o (codes "illegal")
+
 -- the text of an instruction has no label
-pub text_unlabelled : (i : Instr) → (front_of (words (meaning_text (Some i)))).label ≡ None
+pub text_unlabelled : (i : Instr) → (front_of (words (printed i))).label ≡ None
 text_unlabelled i =
     let row = row_of i.name in
     let behind = behind_by row.format row i in
@@ -244,7 +252,7 @@ text_unlabelled i =
     let named = (and_parts (is_word (text_of i.name)) _ (plain_name i.name)).0 in
     ap (λ ws. (front_of ws).label) (word_first (text_of i.name) operands named behind.ends) ∙ front_alone (text_of i.name) (words operands) behind.begins
 
-text_read : (i : Instr) → IsEncodable i → i.name ≢ name.Fence → item_on (words (meaning_text (Some i))) ≡ Some (Some (Plain i))
+text_read : (i : Instr) → IsEncodable i → i.name ≢ name.Fence → item_on (words (printed i)) ≡ Some (Some (Plain i))
 text_read i ok other =
     let row = row_of i.name in
     let behind = behind_by row.format row i in
@@ -259,4 +267,4 @@ pub word_read : (word : ℕ) (i : Instr) → meaning word ≡ Some i → i.name 
 unfolding instruction_text
 word_read word i is other =
     let means : Means is_base word (Some i) = subst (Means is_base word) is (means-meaning is_base word) in
-    ap (λ o. item_on (words (meaning_text o))) is ∙ text_read i (means_encodable is_base word (Some i) means) other
+    ap (λ o. item_on (words (meaning_printed o))) is ∙ text_read i (means_encodable is_base word (Some i) means) other

@@ -1,33 +1,22 @@
-use Rattle.std.proofs.Common.{◌≡◌, ℕ, zero, suc, ◌+◌, ◌*◌, ◌^◌, ◌<◌, ◌≤◌, ◌||◌, ◌&&◌, not, nat_lt, nat_le, ◌-◌, Bool, true, false, cond, List, [], ◌∷◌, ◌++◌, length, length-append, ap, ◌∙◌, refl, arith, Some, None}
+use Rattle.std.proofs.Common.{◌≡◌, ℕ, zero, suc, ◌+◌, ◌*◌, ◌^◌, ◌<◌, ◌≤◌, ◌==◌, ◌||◌, ◌&&◌, not, nat_lt, nat_le, ◌-◌, Bool, true, false, cond, List, [], ◌∷◌, ◌++◌, length, length-append, ap, ◌∙◌, refl, arith, Some, None}
 use Rattle.std.specs.List.{list_any, filter, range_with_len}
 use Rattle.std.proofs.lemmas.Bool.{le-ltb, lt-ltb, le-leb, and_right, and_from, or_from}
 use Rattle.std.proofs.lemmas.List.{get_or-append-add}
-use Rattle.std.specs.Prelude.{slice_index}
+use Rattle.std.specs.Prelude.{slice_index, Option}
 use Rattle.std.specs.Int.{to_le_bytes, w32}
 use Rattle.std.specs.Option.{option_map_or}
 use Rattle.elf_loader.specs.Image.{byte_in}
 use Rattle.sizes.specs.declared.TheConstants.{STACK_ADDRESS, MOST_IMAGE_PAGES}
-use Rattle.elf_loader.specs.declared.image.ElfError.TheVariants.{TooShort, TableOutside, NeedsInterpreter, FileLarger, SegmentOutside, AddressOutside, NothingToLoad}
+use Rattle.elf_loader.specs.declared.image.ElfError.TheVariants.{TooShort, TableOutside, NeedsInterpreter, FileLarger, SegmentOutside, AddressOutside, NothingToLoad, TooManyPages}
 use Rattle.elf_loader.specs.declared.header.ProgramHeader.{ProgramHeader}
 use Rattle.elf_loader.specs.Fields.{number_at, table_length, headers_of, loads_of}
-use Rattle.elf_loader.specs.Accepted.{has_bad_magic, is_not_class_64, is_not_little, has_bad_version, is_not_executable, is_not_riscv, has_bad_entry_size, has_table_outside, file_refusal, header_refusals, table_refusals, Refusal, first_error, names_interpreter, is_larger_in_file, is_outside_file, is_too_high, has_memory}
-use Rattle.elf_loader.specs.Touched.{page_numbers, touches_memory, pages_in}
-use Rattle.elf_loader.proofs.Taken.{taken_by}
+use Rattle.elf_loader.specs.declared.image.ElfError.{ElfError}
+use Rattle.elf_loader.specs.Accepted.{refused_if, first_refusal, ends_behind, file_refusal, header_refusals, table_refusals}
+use Rattle.elf_loader.specs.Touched.{page_numbers, touches_memory, pages_in, image_pages}
+use Rattle.elf_loader.proofs.Taken.{by_pages}
 use Rattle.rv_asm.specs.File.{file_header, segment_header, file_with, code_of, file_of, IsLoaded}
 
 -- The file is read as one segment.
-
-magic : (size : ℕ) (code : List ℕ) → has_bad_magic (file_with size code) ≡ false
-unfolding has_bad_magic
-magic size code = refl
-
-executable : (size : ℕ) (code : List ℕ) → is_not_executable (file_with size code) ≡ false
-unfolding is_not_executable
-executable size code = refl
-
-entries : (size : ℕ) (code : List ℕ) → has_bad_entry_size (file_with size code) ≡ false
-unfolding has_bad_entry_size
-entries size code = refl
 
 one : (size : ℕ) (code : List ℕ) → table_length (file_with size code) ≡ 1
 one size code = refl
@@ -53,41 +42,48 @@ whole : (size : ℕ) (code : List ℕ) → length (file_with size code) ≡ 120 
 whole size code = length-append (file_header ++ segment_header size) code
 
 -- no refusal by the header
-two : (t u : Bool) → t ≡ false → u ≡ false → cond t (Some TooShort) (cond u (Some TableOutside) None) ≡ None
+abbrev header_for : Bool → Bool → List (Option ElfError)
+header_for short outside = refused_if short TooShort ∷ None ∷ None ∷ None ∷ None ∷ None ∷ None ∷ None ∷ refused_if outside TableOutside ∷ []
+
+two : (t u : Bool) → t ≡ false → u ≡ false → first_refusal (header_for t u) ≡ None
 two true u h k = cc
 two false true h k = cc
 two false false h k = refl
 
-header_none : (size : ℕ) (code : List ℕ) → first_error (header_refusals (file_with size code)) ≡ None
-unfolding header_refusals has_bad_magic is_not_class_64 is_not_little has_bad_version is_not_executable is_not_riscv has_bad_entry_size has_table_outside
+header_none : (size : ℕ) (code : List ℕ) → first_refusal (header_refusals (file_with size code)) ≡ None
+unfolding header_refusals
 header_none size code =
     let long = whole size code in
     two (nat_lt (length (file_with size code)) 64) (nat_lt (length (file_with size code)) 120)
     (le-ltb (length (file_with size code)) 64 (omega arith)) (le-ltb (length (file_with size code)) 120 (omega arith))
 
 -- nor by the segment
-abbrev table_for : List ProgramHeader → List ProgramHeader → ℕ → List Refusal
+abbrev table_for : List ProgramHeader → List ProgramHeader → ℕ → List (Option ElfError)
 table_for headers loads size =
-    record { holds = list_any names_interpreter headers; error = NeedsInterpreter }
-    ∷ record { holds = list_any is_larger_in_file loads; error = FileLarger }
-    ∷ record { holds = list_any (is_outside_file size) loads; error = SegmentOutside }
-    ∷ record { holds = list_any is_too_high loads; error = AddressOutside }
-    ∷ record { holds = not (list_any has_memory loads); error = NothingToLoad }
+    refused_if (list_any (λ header. header.kind == 3) headers) NeedsInterpreter
+    ∷ refused_if (list_any (λ load. nat_lt load.memory_size load.file_size) loads) FileLarger
+    ∷ refused_if (list_any (λ load. ends_behind size load.offset load.file_size) loads) SegmentOutside
+    ∷ refused_if (list_any (λ load. ends_behind STACK_ADDRESS load.address load.memory_size) loads) AddressOutside
+    ∷ refused_if (not (list_any (λ load. nat_lt 0 load.memory_size) loads)) NothingToLoad
     ∷ []
 
-four : (t u v w : Bool) → t ≡ false → u ≡ false → v ≡ false → w ≡ true
-    → cond (t || false) (Some FileLarger) (cond (u || false) (Some SegmentOutside) (cond (v || false) (Some AddressOutside) (cond (not (w || false)) (Some NothingToLoad) None))) ≡ None
+abbrev segment_for : Bool → Bool → Bool → Bool → List (Option ElfError)
+segment_for larger outside high some =
+    None ∷ refused_if (larger || false) FileLarger ∷ refused_if (outside || false) SegmentOutside ∷ refused_if (high || false) AddressOutside
+    ∷ refused_if (not (some || false)) NothingToLoad ∷ []
+
+four : (t u v w : Bool) → t ≡ false → u ≡ false → v ≡ false → w ≡ true → first_refusal (segment_for t u v w) ≡ None
 four true u v w h i j k = cc
 four false true v w h i j k = cc
 four false false true w h i j k = cc
 four false false false true h i j k = refl
 four false false false false h i j k = cc
 
-table_none : (size : ℕ) (code : List ℕ) → 0 < size → size < 2 ^ 32 → length code ≡ size → first_error (table_refusals (file_with size code)) ≡ None
+table_none : (size : ℕ) (code : List ℕ) → 0 < size → size < 2 ^ 32 → length code ≡ size → first_refusal (table_refusals (file_with size code)) ≡ None
 unfolding table_refusals
 table_none size code some small is =
-    ap (λ hs. first_error (table_for hs (loads_of (file_with size code)) (length (file_with size code)))) (headers size code small)
-    ∙ ap (λ ls. first_error (table_for (segment size size ∷ []) ls (length (file_with size code)))) (loads size code small)
+    ap (λ hs. first_refusal (table_for hs (loads_of (file_with size code)) (length (file_with size code)))) (headers size code small)
+    ∙ ap (λ ls. first_refusal (table_for (segment size size ∷ []) ls (length (file_with size code)))) (loads size code small)
     ∙ four (nat_lt size size) (nat_lt 0 size && nat_lt (length (file_with size code)) (120 + size)) (nat_lt 0 size && nat_lt STACK_ADDRESS (0x10078 + size)) (nat_lt 0 size)
     (le-ltb size size (omega arith))
     (and_right _ _ (le-ltb (length (file_with size code)) (120 + size) (omega (arith, whole size code, is))))
@@ -126,6 +122,12 @@ few_pages size code small =
     omega (arith, few)
 
 -- the file is taken
+taken_by : (file : List ℕ) → first_refusal (header_refusals file) ≡ None → first_refusal (table_refusals file) ≡ None
+    → length (pages_in (loads_of file)) ≤ MOST_IMAGE_PAGES → file_refusal file ≡ None
+unfolding image_pages
+taken_by file h t few =
+    by_pages file h t ∙ ap (λ b. cond b (Some TooManyPages) None) (le-ltb MOST_IMAGE_PAGES (length (pages_in (loads_of file))) few)
+
 taken : (size : ℕ) (code : List ℕ) → 0 < size → size ≤ 262144 → length code ≡ size → file_refusal (file_with size code) ≡ None
 taken size code some small is =
     taken_by (file_with size code) (header_none size code) (table_none size code some (omega arith) is) (few_pages size code small)

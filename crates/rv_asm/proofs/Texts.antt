@@ -18,13 +18,13 @@ use Rattle.rv_decode.specs.Meaning.{Means, meaning}
 use Rattle.rv_decode.specs.MeaningLaws.{means-meaning}
 use Rattle.rv_decode.proofs.Encodes.{sum-means}
 use Rattle.report_text.specs.Digits.{in_decimal, signed_text}
-use Rattle.report_text.specs.Instructions.{register_text, three_registers_text, two_registers_text, offset_text, one_register_text, opcode, operands_by, meaning_text, instruction_text}
+use Rattle.report_text.specs.Instructions.{register_text, two_registers_text, offset_text, one_register_text, opcode, operands_by, instruction_text}
 use Rattle.asm_lines.specs.Words.{words}
 use Rattle.asm_lines.specs.Items.Item.{Plain}
 use Rattle.asm_lines.specs.Lines.{front_of, item_on, lines_in}
 use Rattle.asm_lines.proofs.Decimals.{decimal_natural}
-use Rattle.asm_lines.proofs.Operands.{weaker, both_all}
-use Rattle.asm_lines.proofs.Rows.{text_unlabelled, word_read}
+use Rattle.asm_lines.proofs.Operands.{three_registers, weaker, both_all}
+use Rattle.asm_lines.proofs.Rows.{printed, meaning_printed, text_unlabelled, word_read}
 use Rattle.rv_asm.specs.Labels.{with_label, and_then_labels, labels_of}
 use Rattle.rv_asm.specs.Outcomes.{with_outcome, outcomes_of, words_in}
 use Rattle.rv_asm.specs.Assembly.{outside_or, first_outside, refusal, or_words, words_of, words_by}
@@ -64,7 +64,7 @@ blank_register : (a : ℕ) → list_all is_printed (codes " " ++ register_text a
 unfolding is_printed
 blank_register a = both (codes " " ++ register_text a) (codes ", ") (one_more (codes " ") a refl) comma
 
-three_printed : (a b c : ℕ) → list_all is_printed (three_registers_text a b c) ≡ true
+three_printed : (a b c : ℕ) → list_all is_printed (three_registers a b c) ≡ true
 three_printed a b c =
     one_more (codes " " ++ register_text a ++ codes ", " ++ register_text b ++ codes ", ") c
     (both (codes " " ++ register_text a ++ codes ", " ++ register_text b) (codes ", ") (one_more (codes " " ++ register_text a ++ codes ", ") b (blank_register a)) comma)
@@ -104,7 +104,7 @@ name_printed : (n : Name) → list_all is_printed (text_of n) ≡ true
 unfolding is_printed
 name_printed n = each_name (λ n. list_all is_printed (text_of n)) refl n
 
-text_printed : (i : Instr) → list_all is_printed (meaning_text (Some i)) ≡ true
+text_printed : (i : Instr) → list_all is_printed (printed i) ≡ true
 text_printed i = both (text_of i.name) (operands_by (row_of i.name).format (row_of i.name) i) (name_printed i.name) (operands_printed (row_of i.name).format (row_of i.name) i)
 
 -- printed bytes are one line, with nothing to pass over at its end
@@ -153,10 +153,10 @@ pub word_back : (word : ℕ) (i : Instr) → word < 2 ^ 32 → meaning word ≡ 
 unfolding words_of instruction_text
 word_back word i below is other =
     let means : Means is_base word (Some i) = subst (Means is_base word) is (means-meaning is_base word) in
-    let text = meaning_text (Some i) in
-    let read : item_on (words text) ≡ Some (Some (Plain i)) = ap (λ o. item_on (words (meaning_text o))) (sym is) ∙ word_read word i is other in
+    let text = printed i in
+    let read : item_on (words text) ≡ Some (Some (Plain i)) = ap (λ o. item_on (words (meaning_printed o))) (sym is) ∙ word_read word i is other in
     let line = lines_of_one text (text_printed i) (name_some i.name _) in
-    ap (λ o. words_by (first_outside (lines_in (meaning_text o))) (labels_of (lines_in (meaning_text o))) (lines_in (meaning_text o))) is
+    ap (λ o. words_by (first_outside (lines_in (meaning_printed o))) (labels_of (lines_in (meaning_printed o))) (lines_in (meaning_printed o))) is
     ∙ ap (λ ls. words_by (first_outside ls) (labels_of ls) ls) line
     ∙ one_word_line (words text) i read (text_unlabelled i)
     ∙ ap (λ w. Ok (w ∷ [])) (sum-means i word below means.1)
