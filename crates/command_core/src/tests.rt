@@ -166,14 +166,14 @@ const ROWS: [Row; 12] = [
         1000,
         STORES,
         b"load f\nload f\nstep 1 16\nfork 1\ndrop 2\nfork 1",
-        b"loaded 1 pages 17 entry 0x10078\nloaded 2 pages 17 entry 0x10078\nran 16 limit\nforked 1 3\nok\nforked 1 4\n",
+        b"loaded 1 pages 17 entry 0x10078\nloaded 2 pages 17 entry 0x10078\nran 16 limit\nforked 1 3\nok\nforked 1 2\n",
     ),
     (
         4,
         1000,
         STORES,
         b"load f\nload f\nstep 1 16\nstep 2 1\nfork 1\ndrop 2\nfork 1",
-        b"loaded 1 pages 17 entry 0x10078\nloaded 2 pages 17 entry 0x10078\nran 16 limit\nran 1 limit\nfull 65 64\nok\nforked 1 3\n",
+        b"loaded 1 pages 17 entry 0x10078\nloaded 2 pages 17 entry 0x10078\nran 16 limit\nran 1 limit\nfull 65 64\nok\nforked 1 2\n",
     ),
     (
         4,
@@ -222,14 +222,14 @@ const ROWS: [Row; 12] = [
         1000,
         STORES,
         b"load f\nstep 1 8\npromote 1 all\nfork 1\nspeculate 1\nstep 1 8\ncommit 1\nload f\npromote 1 all\nload f\ndrop 2\nload f",
-        b"loaded 1 pages 17 entry 0x10078\nran 8 limit\nok\nforked 1 2\nok\nran 8 limit\nok\nfull 68 64\nok\nfull 80 64\nok\nloaded 3 pages 17 entry 0x10078\n",
+        b"loaded 1 pages 17 entry 0x10078\nran 8 limit\nok\nforked 1 2\nok\nran 8 limit\nok\nfull 68 64\nok\nfull 80 64\nok\nloaded 2 pages 17 entry 0x10078\n",
     ),
     (
         4,
         1000,
         STORES,
         b"load f\nload f\nstep 1 16\ncheckpoint 1 a\nforget a\nstep 2 1\ncheckpoint 1 a\ndrop 2\ncheckpoint 1 a\nrestore 1 a",
-        b"loaded 1 pages 17 entry 0x10078\nloaded 2 pages 17 entry 0x10078\nran 16 limit\nsaved 1 a 3\nok\nran 1 limit\nfull 65 64\nok\nsaved 1 a 4\nok\n",
+        b"loaded 1 pages 17 entry 0x10078\nloaded 2 pages 17 entry 0x10078\nran 16 limit\nsaved 1 a 3\nok\nran 1 limit\nfull 65 64\nok\nsaved 1 a 2\nok\n",
     ),
     (
         4,
