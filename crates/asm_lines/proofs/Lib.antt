@@ -1,7 +1,6 @@
 pub mod Spelling
 pub mod Fronts
 pub mod Cuts
-pub mod Values
 pub mod Ranges
 pub mod Signs
 pub mod Decimals

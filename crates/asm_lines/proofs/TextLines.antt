@@ -1,6 +1,6 @@
-use Rattle.std.proofs.Common.{◌≡◌, ℕ, zero, suc, ◌+◌, ◌<◌, ◌==◌, Bool, true, false, cond, List, [], ◌∷◌, length, take, get_or, ap, sym, ◌∙◌, refl, arith, eqb-true, Some, None}
+use Rattle.std.proofs.Common.{◌≡◌, ℕ, suc, ◌+◌, ◌<◌, ◌==◌, Bool, true, false, cond, List, [], ◌∷◌, length, ap, ◌∙◌, refl, arith, eqb-true, Some, None}
 use Rattle.std.specs.Prelude.{Option}
-use Rattle.script_text.specs.Lines.{onto_first, script_lines, without_return}
+use Rattle.script_text.specs.Lines.{onto_first, script_lines}
 use Rattle.asm_lines.specs.Words.{words}
 use Rattle.asm_lines.specs.Kinds.{cut, with_front}
 use Rattle.asm_lines.specs.Lines.{front, front_of, item_on}
@@ -42,21 +42,6 @@ shorter_way false b bs (Some q) p less h = let same : q.1 ≡ p.1 = ap part h in
 pub cut_shorter : (at : ℕ) (text : List ℕ) (p : List ℕ × List ℕ) → cut at text ≡ Some p → length p.1 < length text
 cut_shorter at [] p h = cc
 cut_shorter at (b ∷ bs) p h = shorter_way (b == at) b bs (cut at bs) p (λ q same. cut_shorter at bs q same) h
-
--- The byte 0D at the end of a line.
-pub return_dropped : (line : List ℕ) (k : ℕ) → k + 1 ≡ length line → get_or line k 0 ≡ 13 → take k line ≡ without_return line
-return_dropped [] k h last = absurd (omega arith)
-return_dropped (b ∷ []) zero h last = sym (ap (λ n. cond (n == 13) [] (n ∷ [])) last)
-return_dropped (b ∷ []) (suc k) h last = absurd (omega arith)
-return_dropped (b ∷ c ∷ line) zero h last = absurd (omega arith)
-return_dropped (b ∷ c ∷ line) (suc k) h last = ap (λ bs. b ∷ bs) (return_dropped (c ∷ line) k (omega arith) last)
-
-pub line_kept : (line : List ℕ) (k : ℕ) → k + 1 ≡ length line → (get_or line k 0 == 13) ≡ false → line ≡ without_return line
-line_kept [] k h last = refl
-line_kept (b ∷ []) zero h last = sym (ap (λ (t : Bool). cond t [] (b ∷ [])) last)
-line_kept (b ∷ []) (suc k) h last = absurd (omega arith)
-line_kept (b ∷ c ∷ line) zero h last = absurd (omega arith)
-line_kept (b ∷ c ∷ line) (suc k) h last = ap (λ bs. b ∷ bs) (line_kept (c ∷ line) k (omega arith) last)
 
 -- A line without bytes.
 pub empty_front : (line : List ℕ) → (length line == 0) ≡ true → front_of (words line) ≡ front None (words line)

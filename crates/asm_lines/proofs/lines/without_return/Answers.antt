@@ -1,6 +1,6 @@
 use Rattle.std.proofs.Common.{arith, length, ◌-◌, eqb-true, get_or, ◌==◌}
 use Rattle.std.proofs.lemmas.Bool.{false_from_ne_true}
-use Rattle.asm_lines.proofs.TextLines.{return_dropped, line_kept}
+use Rattle.script_text.proofs.Cuts.{return_dropped, line_kept}
 use Rattle.asm_lines.proofs.lines.without_return.Goals as goal
 
 pub returns-then-line-n-eq13 : goal.returns-then-line-n-eq13

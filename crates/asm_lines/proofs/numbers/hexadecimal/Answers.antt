@@ -1,6 +1,6 @@
 use Rattle.std.proofs.Common.{ℕ, ◌≤◌, ◌*◌, arith}
 use Rattle.script_text.specs.Numbers.{is_hexadecimal}
-use Rattle.asm_lines.proofs.Values.{too_high}
+use Rattle.script_text.proofs.Values.{too_high}
 use Rattle.asm_lines.proofs.numbers.hexadecimal.Goals as goal
 
 pub returns-then-n-d : goal.returns-then-n-d
