@@ -19,7 +19,8 @@ use Rattle.space_maps.specs.Spaces.{space_in}
 use Rattle.machine_core.specs.declared.process.Process as declared
 use Rattle.machine_core.specs.Machine.{Machine, Wholes, has_space, keys_from, unit_limit, registers_at, registers_of, registers_shown, spaces_of, whole_in, wholes}
 use Rattle.machine_core.specs.Laws.{processes_at}
-use Rattle.machine_core.specs.NumberLaws.{Rises, entries_rise}
+use Rattle.ascending_numbers.specs.Rising.{Rises}
+use Rattle.machine_core.specs.NumberLaws.{entries_rise}
 use Rattle.command_core.specs.declared.session.Counts.{Counts}
 use Rattle.command_core.specs.declared.session.ProcessView.{ProcessView}
 use Rattle.sizes.specs.declared.TheConstants.{LAST_SPACE}

@@ -1,4 +1,4 @@
-use Rattle.std.proofs.Common.{◌≡◌, ℕ, List, subst, sym, Err}
+use Rattle.std.proofs.Common.{◌≡◌, ℕ, List, ap, refl, subst, sym, Err}
 use Rattle.breakpoints.specs.Breakpoints.{Breaks}
 use Rattle.overlay_memory.specs.declared.error.SpaceError.{SpaceError}
 use Rattle.overlay_memory.specs.declared.error.SpaceError.TheVariants as error
@@ -11,7 +11,7 @@ use Rattle.command_core.specs.declared.modes.Modes.{Modes}
 use Rattle.command_core.specs.declared.checkpoints.Kept.{Kept}
 use Rattle.command_core.specs.Sessions.{InSession, bases_of}
 use Rattle.command_core.specs.Kept.{checkpoints_in, shown_session}
-use Rattle.command_core.specs.Giving.{WantKeeps, WantKeepsMachine}
+use Rattle.command_core.specs.Giving.{IsSessionAsBefore, WantKeeps, WantKeepsMachine}
 use Rattle.command_core.specs.Changes.{answer_of}
 use Rattle.command_core.specs.Copies.{CopyFails}
 
@@ -28,13 +28,13 @@ module _ (old new : Machine) (xs : List Kept) (breaks : Breaks) (modes : Modes) 
   abbrev after : InSession
   after = shown_session new xs breaks modes
 
-  same_session : IsAsBefore old new → after ≡ before
+  same_session : IsAsBefore old new → IsSessionAsBefore before after
   same_session same =
       let all = same_wholes old new same in
-      λ i. record {
-        state = record { wholes = all i; checkpoints = checkpoints_in (same.0 i) xs; breakpoints = breaks };
-        modes = modes;
-        bases = bases_of (same.0 i);
+      record {
+        state = λ i. record { wholes = all i; checkpoints = checkpoints_in (same.0 i) xs; breakpoints = breaks };
+        modes = refl;
+        bases = ap bases_of same.0;
       }
 
   -- what a machine answers

@@ -73,5 +73,6 @@ modes_code = code_by (ℕ × ℕ) (coded× coded_ℕ coded_ℕ) (λ m. (m.frames
 
 abbrev pub session_code : Coded InSession
 session_code =
-    code_by (State × (Modes × Bases)) (coded× state_code (coded× modes_code bases_code)) (λ s. (s.state, (s.modes, s.bases)))
-    (λ t. record { state = t.0; modes = t.1.0; bases = t.1.1 }) (λ _. refl)
+    code_by (State × (Modes × (Bases × List ℕ))) (coded× state_code (coded× modes_code (coded× bases_code (coded_list coded_ℕ))))
+    (λ s. (s.state, (s.modes, (s.bases, s.free_blocks))))
+    (λ t. record { state = t.0; modes = t.1.0; bases = t.1.1.0; free_blocks = t.1.1.1 }) (λ _. refl)

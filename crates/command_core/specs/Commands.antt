@@ -17,6 +17,7 @@ use Rattle.report_text.specs.Lines.{checkpoint_line, disasm_line, dump_line, lis
 use Rattle.command_core.specs.declared.modes.Modes.{Modes}
 use Rattle.command_core.specs.declared.TheConstants.{WORD_BYTES}
 use Rattle.command_core.specs.declared.session.Counts.{Counts}
+use Rattle.script_text.specs.Given.{asks}
 use Rattle.command_core.specs.State.{Checkpoint, Registry, State, registry_of, with_wholes}
 use Rattle.command_core.specs.Sessions.{InSession}
 use Rattle.command_core.specs.Rows.{Changed, Row, change_by, may_want_memory, refuses}
@@ -35,35 +36,6 @@ pub data FileAsked : Type 0 where
 abbrev pub asked_by : Option (List ℕ) → FileAsked
 asked_by None = IsMissing
 asked_by (Some file) = if nat_lt MOST_FILE_BYTES (length file) then IsTooLong else HasFile file
-
--- the name of the file that a command asks for
-abbrev pub asks : Command → Option (List ℕ)
-asks (Exec name turns) = Some name
-asks (Load name) = Some name
-asks (command.Fork p) = None
-asks (command.Checkpoint p name) = None
-asks (command.Restore p name) = None
-asks (command.Forget name) = None
-asks (command.Speculate p) = None
-asks (command.Commit p) = None
-asks (command.Discard p) = None
-asks (command.Promote p address) = None
-asks (command.PromoteAll p) = None
-asks command.Compact = None
-asks (command.Map p address n perms) = None
-asks (command.Unmap p address n) = None
-asks (command.Drop p) = None
-asks (command.Poke p address bytes) = None
-asks (command.Set p register value) = None
-asks (command.Break p address) = None
-asks (command.Unbreak p address) = None
-asks (Run turns) = None
-asks (Step p turns) = None
-asks command.List = None
-asks command.Stats = None
-asks (command.Regs p) = None
-asks (command.Dump p address count) = None
-asks (command.Disasm p address words) = None
 
 abbrev pub asked_for : Option (List ℕ) → (List ℕ → Option (List ℕ)) → FileAsked
 asked_for None files = AsksNothing

@@ -21,10 +21,16 @@ abbrev pub GivesChange : Row → State → Answer → State → Type 0
 GivesChange row old Memory new = (may_want_memory row old ≡ true) × (new ≡ old)
 GivesChange row old answer new = ComesTo (change_by row old) answer new
 
+-- all of a session is as before, but for how its free units are cut into blocks
+pub record IsSessionAsBefore (old new : InSession) : Type 0 where
+  pub state : new.state ≡ old.state
+  pub modes : new.modes ≡ old.modes
+  pub bases : new.bases ≡ old.bases
+
 -- After want of memory all of a session is as before, and so are the bases of its spaces. A machine then has the same spaces,
 -- translations and processes.
 abbrev pub WantKeeps : InSession → Answer → InSession → Type 0
-WantKeeps old Memory new = new ≡ old
+WantKeeps old Memory new = IsSessionAsBefore old new
 WantKeeps old answer new = Unit {0}
 
 abbrev pub WantKeepsMachine : Machine → Answer → Machine → Type 0

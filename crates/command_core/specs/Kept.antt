@@ -9,7 +9,7 @@ use Rattle.report_text.specs.Answers.{IsCheckpointName}
 use Rattle.command_core.specs.declared.modes.Modes.{Modes}
 use Rattle.command_core.specs.declared.checkpoints.Kept.{Kept}
 use Rattle.command_core.specs.State.{Checkpoint, State as Shown}
-use Rattle.command_core.specs.Sessions.{InSession, bases_of, session_state}
+use Rattle.command_core.specs.Sessions.{InSession, bases_of, free_blocks_of, session_state}
 
 -- What a session keeps of checkpoints, and what it shows of them.
 
@@ -50,7 +50,12 @@ shown_state machine xs breakpoints = session_state machine (checkpoints_in (spac
 
 abbrev pub shown_session : Machine → List Kept → Breaks → Modes → InSession
 shown_session machine xs breakpoints modes =
-    record { state = shown_state machine xs breakpoints; modes = modes; bases = bases_of (spaces_of machine) }
+    record {
+      state = shown_state machine xs breakpoints;
+      modes = modes;
+      bases = bases_of (spaces_of machine);
+      free_blocks = free_blocks_of machine.memory.pages.store.blocks;
+    }
 
 -- the spaces of checkpoints
 abbrev pub spaces_kept : List Kept → List ℕ

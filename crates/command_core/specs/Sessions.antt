@@ -1,4 +1,4 @@
-use Rattle.std.specs.Prelude.{◌≡◌, ℕ, ◌==◌, ◌&&◌, nat_eq, not, true, List, None}
+use Rattle.std.specs.Prelude.{◌≡◌, ℕ, ◌<◌, ◌==◌, ◌&&◌, nat_eq, not, true, List, [], ◌∷◌, map, None}
 use Rattle.std.specs.Option.{is_some}
 use Rattle.std.specs.List.{AllByRecursion, IsDistinct, list_any}
 use Rattle.std.specs.Ordering.{nat_cmp}
@@ -6,6 +6,7 @@ use Rattle.std.specs.FinMap.{FinMap, empty, get}
 use Rattle.number_maps.specs.Views.{viewed}
 use Rattle.ovl_io.specs.Memory.{Memory}
 use Rattle.overlay_pages.specs.State.{State as Spaces, base_of}
+use Rattle.unit_map.specs.Pieces.{Piece, count}
 use Rattle.breakpoints.specs.Breakpoints.{Breaks}
 use Rattle.free_numbers.specs.Numbers.{is_in, is_number}
 use Rattle.translation_cache.specs.Absent.{HasNone}
@@ -77,15 +78,23 @@ Bases = FinMap nat_cmp Memory
 unfoldable pub bases_of : Spaces → Bases
 bases_of spaces = viewed (λ p _. base_of spaces p) spaces.spaces
 
--- A session: the state, what is fixed for the whole run, and the bases of all spaces.
+-- How many free blocks of 1, 2, 4 and 8 units the frames have, and that no two of one size are left.
+unfoldable pub free_blocks_of : List Piece → List ℕ
+free_blocks_of blocks = map (λ order. count order blocks) (0 ∷ 1 ∷ 2 ∷ 3 ∷ [])
+
+abbrev pub AreSettledCounts : List ℕ → Type 0
+AreSettledCounts counts = AllByRecursion (λ n. n < 2) counts
+
+-- A session: the state, what is fixed for the whole run, the bases of all spaces, and how many free blocks of each size there are.
 pub record InSession : Type 0 where
   pub state : State
   pub modes : Modes
   pub bases : Bases
+  pub free_blocks : List ℕ
 
 -- one without a process
-abbrev pub fresh_session : Modes → InSession
-fresh_session modes = record { state = fresh modes; modes = modes; bases = empty }
+abbrev pub fresh_session : Modes → List ℕ → InSession
+fresh_session modes free_blocks = record { state = fresh modes; modes = modes; bases = empty; free_blocks = free_blocks }
 
 -- all but the processes is as it was
 pub record KeepsRest (old new : InSession) : Type 0 where

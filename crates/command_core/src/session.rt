@@ -1,9 +1,9 @@
 ghost use Rattle.std.specs.Prelude.{◌≡◌, ◌==◌, ◌+◌, ◌≤◌, ◌<◌, [], None, true, false, length, IfOk, IfSome, OnOk};
-ghost use Rattle.script_text.specs.Given.{IsGiven};
+ghost use Rattle.script_text.specs.Given.{IsGiven, asks};
 ghost use Rattle.report_text.specs.Answers.{IsCheckpointName};
 ghost use Rattle.sizes.specs.declared.TheConstants.{ADDRESS_END, LAST_SPACE, MOST_FRAMES, PAGE_BYTES};
 ghost use Rattle.command_core.specs.State.{fresh, registry_of};
-ghost use Rattle.command_core.specs.Sessions.{KeepsRest, fresh_session};
+ghost use Rattle.command_core.specs.Sessions.{AreSettledCounts, KeepsRest, fresh_session};
 ghost use Rattle.command_core.specs.Giving.{GivesChange, WantKeeps};
 ghost use Rattle.command_core.specs.Rows.{still_row};
 ghost use Rattle.command_core.specs.Copies.{fork_row};
@@ -11,7 +11,7 @@ ghost use Rattle.command_core.specs.ProcessChanges.{process_row};
 ghost use Rattle.command_core.specs.Debugging.{break_row, poke_row, unbreak_row};
 ghost use Rattle.command_core.specs.Checkpoints.{checkpoint_row, forget_row, on_checkpoint, restore_row};
 ghost use Rattle.command_core.specs.Changes.{CanBeTold, answer_of, change_row, drop_row, load_row, on_process};
-ghost use Rattle.command_core.specs.Commands.{RunsLoaded, asks};
+ghost use Rattle.command_core.specs.Commands.{RunsLoaded};
 ghost use Rattle.command_core.specs.Looks.{BeginsStep, CanRead, LooksAt, LooksAtCheckpoint, NextProcess, ReadsBytes, counts_of, look_of, looked_at};
 ghost use Rattle.command_core.specs.Ample.{IsAmplyDone};
 ghost use Rattle.command_core.specs.Standing.{SessionAnswersAs, GivesAs, HoldsFor, SessionStandsFor, TurnsAs, begun_run, begun_step, ends_run, speaks, takes_turn};
@@ -130,7 +130,8 @@ impl Session {
         requires some { 0 < frames }
         requires few { frames ≤ MOST_FRAMES }
         requires quantum { 1 ≤ quantum }
-        ensures session { IfOk result (λ session. session ≡ fresh_session (record { frames = frames; quantum = quantum })) }
+        ensures session { IfOk result (λ session. session
+            ≡ fresh_session (record { frames = frames; quantum = quantum }) session.free_blocks) }
         ensures stands { IfOk result (λ session. SessionStandsFor session
             (fresh (record { frames = frames; quantum = quantum }))) }
     {
@@ -304,9 +305,9 @@ impl Session {
         }
     }
 
-    /// Moves segments until free units lie together, which nothing shows: a session has no word for blocks, and that nothing is left to
-    /// move is a clause of the call below (`settled`).
+    /// Moves segments until no two free blocks below a frame are equal in size. No state shows blocks.
     fn compact(&mut self) -> Answer
+        ensures settled { AreSettledCounts self.new.free_blocks }
         ensures gives { GivesChange (still_row (registry_of self.old.state)) self.old.state
             result self.new.state }
         ensures want { WantKeeps self.old result self.new }
@@ -397,6 +398,7 @@ impl Session {
         requires given { IsGiven command.now }
         ensures gives { GivesChange (change_row [] command.now (registry_of self.old.state)) self.old.state
             result self.new.state }
+        ensures settled { command.now ≡ Command.Compact → AreSettledCounts self.new.free_blocks }
         ensures want { WantKeeps self.old result self.new }
         ensures told { CanBeTold result }
         ensures modes { self.new.modes ≡ self.old.modes }
@@ -450,6 +452,7 @@ impl Session {
             result self.new.state }
         ensures stands { GivesAs (change_row [] command.now) self.old result self.new }
         ensures ample { IsAmplyDone (change_row [] command.now) self.old result }
+        ensures settled { command.now ≡ Command.Compact → AreSettledCounts self.new.free_blocks }
         ensures want { WantKeeps self.old result self.new }
         ensures told { CanBeTold result }
         ensures modes { self.new.modes ≡ self.old.modes }

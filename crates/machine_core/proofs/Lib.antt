@@ -5,7 +5,6 @@ pub mod Leaving
 pub mod Executing
 pub mod Ahead
 pub mod Owing
-pub mod Rising
 pub mod Listed
 pub mod Accessing
 pub mod Stepping

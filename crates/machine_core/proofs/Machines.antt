@@ -1,7 +1,7 @@
 use Rattle.std.proofs.Common.{◌≡◌, ℕ, ◌<◌, ◌≤◌, zero, suc, Bool, true, false, cond, ◌||◌, List, [], ◌∷◌, map, length, get_or, sym, ap, subst, ◌∙◌, refl, arith, inl, inr, Option, Some, None}
 use Rattle.std.specs.Prelude.{nat_le, slice_get}
 use Rattle.std.specs.Option.{is_some, option_map, option_map_or, unwrap_or, MatchOption}
-use Rattle.std.specs.Global.{Vec}
+use Rattle.std.specs.List.Sorted.{IsStrictlyIncreasing}
 use Rattle.std.specs.List.{All, filter}
 use Rattle.std.specs.FinMap.{get, insert, entries, get-entries}
 use Rattle.std.proofs.lemmas.Bool.{cases_lt, cases_order}
@@ -19,11 +19,12 @@ use Rattle.machine_core.specs.Machine.{AreLike, Machine, Processes, Wholes, has_
 use Rattle.machine_core.specs.Turns.{AreLikeGuests, Guest, guest_at, guest_of, with_guest}
 use Rattle.machine_core.specs.Laws.{after_both, leads, processes_at, runs_shown, whole_by}
 use Rattle.machine_core.specs.Kept.{IsBeside, IsChanged, IsRunningList, guest_in, is_in, machine_of}
-use Rattle.machine_core.specs.NumberLaws.{Rises, entries_rise, in_passing, none_below, numbers_are, numbers_rise, rises_passing}
+use Rattle.machine_core.specs.NumberLaws.{entries_rise, in_passing, numbers_are, numbers_rise, rises_passing}
 use Rattle.machine_core.specs.NumberLaws as numbers
 use Rattle.machine_core.proofs.Stepping.{of_running}
 use Rattle.machine_core.proofs.Listed.{runs_found}
-use Rattle.machine_core.proofs.Rising.{rises, found_in, same_rising}
+use Rattle.ascending_numbers.specs.Numbers.{Numbers}
+use Rattle.ascending_numbers.specs.Rising.{Rises, found_in, none_below, rises, same_rising}
 
 -- What a machine says of its processes.
 
@@ -143,12 +144,13 @@ pub numbers_both : (a b : Wholes) → AreLike a b → running_numbers a ≡ runn
 numbers_both a b like = ap (λ (ps : Processes). map (λ e. e.0) (filter (λ e. runs e.1.state) (entries ps))) like.processes
 
 -- the list that is kept
-pub running_is : (machine : Machine) (running : Vec ℕ) → IsRunningList machine.processes running → running.items ≡ running_numbers (wholes machine)
-running_is machine running kept =
-    same_rising 0 running.items (running_numbers (wholes machine)) (rises running.items kept.ascending) (numbers_rise (wholes machine))
+pub running_is : (machine : Machine) (running : Numbers) → IsStrictlyIncreasing running.items → IsRunningList machine.processes running
+    → running.items ≡ running_numbers (wholes machine)
+running_is machine running ascending kept =
+    same_rising 0 running.items (running_numbers (wholes machine)) (rises running.items ascending) (numbers_rise (wholes machine))
     (λ q. kept.listed q ∙ sym (runs_shown machine q) ∙ sym (numbers_are (wholes machine) q))
 
-pub each_runs : (machine : Machine) (running : Vec ℕ) → IsRunningList machine.processes running → All (λ p. is_running (wholes machine) p ≡ true) running.items
+pub each_runs : (machine : Machine) (running : Numbers) → IsRunningList machine.processes running → All (λ p. is_running (wholes machine) p ≡ true) running.items
 each_runs machine running kept = λ k d below.
     let p = get_or running.items k d in
     let at : get_or running.items k 0 ≡ p = same_default running.items k d below in

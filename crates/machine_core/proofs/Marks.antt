@@ -24,7 +24,7 @@ use Rattle.ledger.specs.Units.{units}
 use Rattle.number_maps.specs.Keys.{get_same}
 use Rattle.machine_core.specs.Load.{load_pages, loaded_ledger, stack_pages, stored_count, stored_pages}
 use Rattle.machine_core.specs.Loading.{one_loaded}
-use Rattle.machine_core.specs.NumberLaws.{Rises, lower}
+use Rattle.ascending_numbers.specs.Rising.{Rises, lower}
 
 -- How many pages are stored.
 

@@ -8,7 +8,7 @@ use Rattle.machine_core.specs.Machine.{HaveSpaces, KeepsPlaces, Machine, StaysBu
 use Rattle.machine_core.specs.Turns.{Guest, after_turn, guest_after, guest_of, guest_refused, guest_stepped, is_full, with_guest}
 use Rattle.machine_core.specs.Laws.{runs_shown}
 use Rattle.machine_core.specs.Play.{AreOwnTurns, after_number, is_full_at, own_turns, run_over, turns_of}
-use Rattle.machine_core.specs.NumberLaws.{other_is, same_is}
+use Rattle.ascending_numbers.specs.Rising.{other_is, same_is}
 
 -- Turns of several processes.
 

@@ -1,11 +1,8 @@
-use Rattle.std.specs.Prelude.{◌≡◌, ◌==◌, ◌<◌, Result, Ok, Err, ℕ, ◌≤◌, Bool, true, false, List, length, get_or}
+use Rattle.std.specs.Prelude.{◌≡◌, ◌<◌, ℕ, Bool, true, false}
 use Rattle.std.specs.Option.{option_map_or, is_some}
-use Rattle.std.specs.Global.{Vec}
 use Rattle.std.specs.Ordering.{nat_cmp}
 use Rattle.std.specs.FinMap.{FinMap, get}
-use Rattle.std.specs.List.{list_any}
-use Rattle.std.specs.List.Sorted.{IsStrictlyIncreasing}
-use Rattle.std.specs.Vec.{vec_capacity}
+use Rattle.ascending_numbers.specs.Numbers.{Numbers, is_in}
 use Rattle.overlay_pages.specs.State.{State, books}
 use Rattle.overlay_memory.specs.View.{TranslatedView, state_of, translations_of}
 use Rattle.translation_cache.specs.Bare.{BareTranslations}
@@ -56,28 +53,12 @@ pub record IsChanged (p : ℕ) (old new : Machine) (after : Wholes → Wholes) :
   pub others : StaysBut p old new
   pub places : KeepsPlaces old new
 
-abbrev pub is_in : List ℕ → ℕ → Bool
-is_in numbers q = list_any (λ n. n == q) numbers
-
--- a number is in a list now or isn't, and each other one is where it was
-pub record IsListed (p : ℕ) (listed : Bool) (old new : List ℕ) : Type 0 where
-  pub here : is_in new p ≡ listed
-  pub others : (q : ℕ) → (q ≡ p → ⊥) → is_in new q ≡ is_in old q
-
--- where a number stands among ascending ones, or where it would
-abbrev pub IsPlaceOf : List ℕ → ℕ → Result ℕ ℕ → Type 0
-IsPlaceOf numbers p (Ok i) = (i < length numbers) × (get_or numbers i 0 ≡ p)
-IsPlaceOf numbers p (Err i) =
-    (i ≤ length numbers) × ((k : ℕ) → k < i → get_or numbers k 0 < p) × ((k : ℕ) → i ≤ k → k < length numbers → p < get_or numbers k 0)
-
--- The list of running numbers: ascending, those of the processes that run, and with room for each process that there is.
-pub record IsRunningList (processes : KeptProcesses) (running : Vec ℕ) : Type 0 where
-  pub ascending : IsStrictlyIncreasing running.items
+-- The list of running numbers: those of the processes that run, and with room for each process that there is.
+pub record IsRunningList (processes : KeptProcesses) (running : Numbers) : Type 0 where
   pub listed : (q : ℕ) → is_in running.items q ≡ runs_at processes q
-  pub room : (q : ℕ) → is_some (get processes q) ≡ true → q < vec_capacity running
+  pub room : (q : ℕ) → is_some (get processes q) ≡ true → q < running.room
 
 -- the same, but that it may be wrong of one number
-pub record IsListBut (p : ℕ) (processes : KeptProcesses) (running : Vec ℕ) : Type 0 where
-  pub ascending : IsStrictlyIncreasing running.items
+pub record IsListBut (p : ℕ) (processes : KeptProcesses) (running : Numbers) : Type 0 where
   pub listed : (q : ℕ) → (q ≡ p → ⊥) → is_in running.items q ≡ runs_at processes q
-  pub room : (q : ℕ) → is_some (get processes q) ≡ true → q < vec_capacity running
+  pub room : (q : ℕ) → is_some (get processes q) ≡ true → q < running.room

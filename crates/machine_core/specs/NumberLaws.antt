@@ -12,33 +12,8 @@ use Rattle.std.proofs.lemmas.Bool.Decides.{nat_tests}
 use Rattle.ovl_io.specs.Keys.{by_key, ties, differs}
 use Rattle.machine_core.specs.Process.{Process, runs}
 use Rattle.machine_core.specs.Machine.{Processes, Wholes, is_running, running_numbers}
-use Rattle.machine_core.specs.Kept.{is_in}
-
--- Numbers that rise, as those of processes do.
-
--- each is greater than the one before, and the first isn't below a number
-abbrev pub Rises : ℕ → List ℕ → Type 0
-Rises k [] = Unit {0}
-Rises k (x ∷ xs) = (k ≤ x) × Rises (suc x) xs
-
-pub same_is : (n q : ℕ) → n ≡ q → (n == q) ≡ true
-same_is n q h = grind (arith, nat_tests)
-
-pub other_is : (n q : ℕ) → (n ≡ q → ⊥) → (n == q) ≡ false
-other_is n q h = by_test (n == q) refl
-  where
-    by_test : (b : Bool) → (n == q) ≡ b → b ≡ false
-    by_test true e = absurd (h (grind (arith, nat_tests)))
-    by_test false e = refl
-
-pub lower : (j k : ℕ) (xs : List ℕ) → j ≤ k → Rises k xs → Rises j xs
-lower j k [] le h = tt
-lower j k (x ∷ xs) le h = (omega (arith, h.0), h.1)
-
-pub none_below : (k : ℕ) (xs : List ℕ) (q : ℕ) → Rises k xs → q < k → is_in xs q ≡ false
-none_below k [] q h below = refl
-none_below k (x ∷ xs) q h below =
-    ap (λ b. b || is_in xs q) (other_is x q (λ e. absurd (omega (arith, h.0)))) ∙ none_below (suc x) xs q h.1 (omega (arith, h.0))
+use Rattle.ascending_numbers.specs.Numbers.{is_in}
+use Rattle.ascending_numbers.specs.Rising.{Rises, lower, none_below, other_is, same_is}
 
 -- The numbers of entries that pass a test.
 

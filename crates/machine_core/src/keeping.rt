@@ -11,8 +11,8 @@ ghost use Rattle.overlay_memory.specs.View.{NoneAwaits, state_of};
 
 use crate::guest::answer_request;
 use crate::process::{Process, is_running};
-use crate::running::{list, reserve};
 use crate::stretches::execute_up_to;
+use ascending_numbers::AscendingNumbers;
 use breakpoints::Addresses;
 use by_number::ByNumber;
 use decoded_lines::DecodedLines;
@@ -33,11 +33,15 @@ pub(crate) fn runs_in(processes: &ByNumber<Process>, p: u16) -> bool
 }
 
 /// Lists a number where its process runs, and else takes it out. The list is right of each other number.
-fn relist(processes: &ByNumber<Process>, running: &mut Vec<u16>, p: u16)
+fn relist(processes: &ByNumber<Process>, running: &mut AscendingNumbers, p: u16)
     requires { IsListBut p processes.now running.old }
     ensures { IsRunningList processes.now running.new }
 {
-    list(running, p, runs_in(processes, p));
+    if runs_in(processes, p) {
+        running.put(p);
+    } else {
+        running.take(p);
+    }
 }
 
 /// Executes up to so many instructions of a running process, whose space is there, as long as each is a step and leaves the pc at no
@@ -78,7 +82,7 @@ fn execute_in(
 pub(crate) fn execute_turns(
     processes: &mut ByNumber<Process>,
     memory: &mut OverlayMemory,
-    running: &mut Vec<u16>,
+    running: &mut AscendingNumbers,
     lines: &mut DecodedLines,
     p: u16,
     most: u32,
@@ -128,7 +132,7 @@ fn answer_in(processes: &mut ByNumber<Process>, memory: &mut OverlayMemory, p: u
 pub(crate) fn answer_turn(
     processes: &mut ByNumber<Process>,
     memory: &mut OverlayMemory,
-    running: &mut Vec<u16>,
+    running: &mut AscendingNumbers,
     p: u16,
 ) -> Turn
     requires kept { IsRunningList processes.old running.old }
@@ -151,7 +155,7 @@ pub(crate) fn answer_turn(
 /// Gives a number a process. After want of memory each number has what it had.
 pub(crate) fn adopt(
     processes: &mut ByNumber<Process>,
-    running: &mut Vec<u16>,
+    running: &mut AscendingNumbers,
     p: u16,
     process: Process,
 ) -> Result<(), AllocError>
@@ -160,7 +164,7 @@ pub(crate) fn adopt(
     ensures err { OnErr result (processes.new ≡ processes.old) }
     ensures kept { IsRunningList processes.new running.new }
 {
-    reserve(running, p as usize + 1)?;
+    running.reserve(u32::from(p) + 1)?;
     // it is handed on field by field: the checker has to be told of their types here
     let Process { regs, state, saved } = process;
     processes.insert(p, Process { regs, state, saved })?;
@@ -171,7 +175,7 @@ pub(crate) fn adopt(
 /// Puts a process in the place of one. Takes no memory: there is room for each number.
 pub(crate) fn set(
     processes: &mut ByNumber<Process>,
-    running: &mut Vec<u16>,
+    running: &mut AscendingNumbers,
     p: u16,
     process: Process,
 )
@@ -188,7 +192,7 @@ pub(crate) fn set(
 }
 
 /// Takes a process away.
-pub(crate) fn remove(processes: &mut ByNumber<Process>, running: &mut Vec<u16>, p: u16)
+pub(crate) fn remove(processes: &mut ByNumber<Process>, running: &mut AscendingNumbers, p: u16)
     requires kept { IsRunningList processes.old running.old }
     ensures removed { processes.new ≡ map.remove processes.old p }
     ensures kept { IsRunningList processes.new running.new }

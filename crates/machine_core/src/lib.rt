@@ -10,8 +10,7 @@
 //! - `stretches`: instructions of one process, one after the other
 //! - `guest`: what a process asks for
 //! - `load`: what a load makes of an image
-//! - `running`: the numbers that run, ascending
-//! - `keeping`: processes by number and that list, kept together
+//! - `keeping`: processes by number and the list of those that run, kept together
 //! - `machine`: `Machine` with its calls
 #![tactic(auto)]
 
@@ -21,7 +20,6 @@ mod keeping;
 mod load;
 mod machine;
 mod process;
-mod running;
 mod stretches;
 mod view;
 

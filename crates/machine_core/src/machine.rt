@@ -23,6 +23,7 @@ ghost use Rattle.overlay_memory.specs.contracts.memory.OverlayMemory as memory;
 use crate::keeping::{adopt, answer_turn, execute_turns, remove, runs_in, set};
 use crate::load::{load_space, stored_in};
 use crate::process::Process;
+use ascending_numbers::AscendingNumbers;
 use breakpoints::Addresses;
 use by_number::ByNumber;
 use decoded_lines::DecodedLines;
@@ -39,7 +40,7 @@ use std::marker::Model;
 pub struct Machine {
     memory: OverlayMemory,
     processes: ByNumber<Process>,
-    running: Vec<u16>,
+    running: AscendingNumbers,
     lines: DecodedLines,
 }
 
@@ -71,7 +72,7 @@ impl Machine {
         Ok(Machine {
             memory: OverlayMemory::new(alloc, frames)?,
             processes: ByNumber::new(alloc),
-            running: Vec::new(alloc),
+            running: AscendingNumbers::new(alloc),
             lines: DecodedLines::new(alloc)?,
         })
     }

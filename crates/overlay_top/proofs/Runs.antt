@@ -14,7 +14,8 @@ use Rattle.overlay_top.specs.declared.status.Status.{Status}
 use Rattle.overlay_top.specs.declared.status.Status.TheVariants as ending
 use Rattle.command_core.specs.declared.modes.Modes.{Modes}
 use Rattle.command_core.specs.State.{AreLikeStates, State, fresh}
-use Rattle.command_core.specs.Commands.{FileAsked, AsksNothing, HasFile, IsMissing, IsTooLong, Performed, asked_by, asked_for, asks, file_asked, file_in, has_all, performed}
+use Rattle.script_text.specs.Given.{asks}
+use Rattle.command_core.specs.Commands.{FileAsked, AsksNothing, HasFile, IsMissing, IsTooLong, Performed, asked_by, asked_for, file_asked, file_in, has_all, performed}
 use Rattle.command_core.specs.LikeLaws.{AreLikePerformed, like_performed, states_chain, states_same}
 use Rattle.overlay_top.specs.declared.words.Settings.{Settings}
 use Rattle.overlay_top.specs.Sending.{IsSent, IsCut}

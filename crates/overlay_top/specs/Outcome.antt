@@ -8,7 +8,8 @@ use Rattle.workload.specs.File.{made_file}
 use Rattle.report_text.specs.Lines.{bad_line}
 use Rattle.command_core.specs.declared.modes.Modes.{Modes}
 use Rattle.command_core.specs.State.{State, fresh}
-use Rattle.command_core.specs.Commands.{FileAsked, AsksNothing, HasFile, IsMissing, IsTooLong, Performed, Rules, asks, file_asked, file_in, performed_by, rules}
+use Rattle.script_text.specs.Given.{asks}
+use Rattle.command_core.specs.Commands.{FileAsked, AsksNothing, HasFile, IsMissing, IsTooLong, Performed, Rules, file_asked, file_in, performed_by, rules}
 use Rattle.overlay_top.specs.declared.words.Settings.{Settings}
 use Rattle.overlay_top.specs.Words.{seed_set, settings_of}
 use Rattle.overlay_top.specs.declared.status.Status.{Status}

@@ -1,9 +1,8 @@
 ghost use Rattle.std.specs.Prelude.{◌≡◌, ℕ, List, Err, [], ◌∷◌, map, OnOk};
 ghost use Rattle.std.specs.List.{All};
-ghost use Rattle.std.specs.Option.{option_copied};
 ghost use Rattle.ovl_io.specs.Outside.{AsksFor, HasName};
-ghost use Rattle.script_text.specs.Given.{IsGiven};
-ghost use Rattle.command_core.specs.Commands.{asked_by, asks, file_asked};
+ghost use Rattle.script_text.specs.Given.{IsGiven, asks};
+ghost use Rattle.command_core.specs.Commands.{asked_by, file_asked};
 ghost use Rattle.overlay_top.specs.Outcome.{command_done, named, run_all};
 ghost use Rattle.overlay_top.specs.Outside.{FetchedFor, ShelfBy, SinkBy};
 ghost use Rattle.overlay_top.specs.Words.{AreInRange};
@@ -13,7 +12,7 @@ use crate::commands::do_command;
 use crate::sending::Report;
 use crate::words::Settings;
 use command_core::Session;
-use ovl_io::{Bytes, Failed, Shelf, ShelfError, Sink};
+use ovl_io::{Failed, Shelf, ShelfError, Sink};
 use script_text::Command;
 use std::alloc::{AllocError, Global};
 
@@ -70,41 +69,6 @@ impl From<AllocError> for Halt {
     }
 }
 
-/// The file that a command asks for.
-fn file_of(command: &Command) -> Option<&Bytes>
-    requires { IsGiven command.now }
-    ensures { option_copied result ≡ asks command.now }
-{
-    match command {
-        Command::Exec(name, _) => Some(name),
-        Command::Load(name) => Some(name),
-        Command::Run(_)
-        | Command::Step(_, _)
-        | Command::List
-        | Command::Stats
-        | Command::Regs(_)
-        | Command::Dump(_, _, _)
-        | Command::Disasm(_, _, _)
-        | Command::Fork(_)
-        | Command::Checkpoint(_, _)
-        | Command::Restore(_, _)
-        | Command::Forget(_)
-        | Command::Speculate(_)
-        | Command::Commit(_)
-        | Command::Discard(_)
-        | Command::Promote(_, _)
-        | Command::PromoteAll(_)
-        | Command::Compact
-        | Command::Map(_, _, _, _)
-        | Command::Unmap(_, _, _)
-        | Command::Drop(_)
-        | Command::Poke(_, _, _)
-        | Command::Set(_, _, _)
-        | Command::Break(_, _)
-        | Command::Unbreak(_, _) => None,
-    }
-}
-
 /// Fetches the file that a command asks for; one that asks for none gets no bytes.
 fn fetch_for<H: Shelf>(alloc: Global, command: &Command, shelf: &mut H) -> Result<Vec<u8>, Halt>
     requires { IsGiven command.now }
@@ -115,7 +79,7 @@ fn fetch_for<H: Shelf>(alloc: Global, command: &Command, shelf: &mut H) -> Resul
     ensures kept { H.tells → (other : List ℕ) → H.files shelf.new other ≡ H.files shelf.old other }
     ensures fetched { AsksFor H.fetched (named (asks command.now ∷ [])) shelf.old shelf.new }
 {
-    match file_of(command) {
+    match command.file() {
         Some(name) => fetch(alloc, name.as_slice(), shelf),
         None => Ok(Vec::new(alloc)),
     }

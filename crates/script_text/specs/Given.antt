@@ -1,4 +1,4 @@
-use Rattle.std.specs.Prelude.{◌≡◌, ℕ, ◌≤◌, ◌<◌, ◌^◌, nat_eq, true, List, [], ◌∷◌, length}
+use Rattle.std.specs.Prelude.{◌≡◌, ℕ, ◌≤◌, ◌<◌, ◌^◌, nat_eq, true, List, [], ◌∷◌, length, Option, Some, None}
 use Rattle.std.specs.List.{list_any, All}
 use Rattle.ovl_io.specs.declared.perms.Perms.{Perms}
 use Rattle.ovl_io.specs.Outside.{HasName}
@@ -8,7 +8,36 @@ use Rattle.script_text.specs.declared.command.Command.{Command}
 use Rattle.script_text.specs.declared.command.Command.TheVariants.{Exec, Load, Fork, Run, Step, Checkpoint, Restore, Forget, Speculate, Commit, Discard, Promote, PromoteAll, Drop}
 use Rattle.script_text.specs.declared.command.Command.TheVariants as command
 
--- What holds of each command that a script gives.
+-- What a command that a script gives asks for, and what holds of it.
+
+-- the name of the file that a command asks for
+abbrev pub asks : Command → Option (List ℕ)
+asks (Exec name turns) = Some name
+asks (Load name) = Some name
+asks (command.Fork p) = None
+asks (command.Checkpoint p name) = None
+asks (command.Restore p name) = None
+asks (command.Forget name) = None
+asks (command.Speculate p) = None
+asks (command.Commit p) = None
+asks (command.Discard p) = None
+asks (command.Promote p address) = None
+asks (command.PromoteAll p) = None
+asks command.Compact = None
+asks (command.Map p address n perms) = None
+asks (command.Unmap p address n) = None
+asks (command.Drop p) = None
+asks (command.Poke p address bytes) = None
+asks (command.Set p register value) = None
+asks (command.Break p address) = None
+asks (command.Unbreak p address) = None
+asks (Run turns) = None
+asks (Step p turns) = None
+asks command.List = None
+asks command.Stats = None
+asks (command.Regs p) = None
+asks (command.Dump p address count) = None
+asks (command.Disasm p address words) = None
 
 abbrev pub IsTurns : ℕ → Type 0
 IsTurns n = (1 ≤ n) × (n ≤ MOST_TURNS)

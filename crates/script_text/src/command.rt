@@ -1,4 +1,6 @@
 ghost use Rattle.std.specs.Prelude.{◌≡◌};
+ghost use Rattle.std.specs.Option.{option_copied};
+ghost use Rattle.script_text.specs.Given.{asks};
 
 use ovl_io::{Bytes, Perms};
 use std::alloc::{AllocError, AllocFailed};
@@ -59,6 +61,42 @@ pub enum Command {
     List,
     /// Prints counts.
     Stats,
+}
+
+impl Command {
+    /// The name of the file that it asks for, if it asks for one.
+    pub fn file(&self) -> Option<&Bytes>
+        ensures { option_copied result ≡ asks self.now }
+    {
+        match self {
+            Command::Exec(name, _) => Some(name),
+            Command::Load(name) => Some(name),
+            Command::Run(_)
+            | Command::Step(_, _)
+            | Command::List
+            | Command::Stats
+            | Command::Regs(_)
+            | Command::Dump(_, _, _)
+            | Command::Disasm(_, _, _)
+            | Command::Fork(_)
+            | Command::Checkpoint(_, _)
+            | Command::Restore(_, _)
+            | Command::Forget(_)
+            | Command::Speculate(_)
+            | Command::Commit(_)
+            | Command::Discard(_)
+            | Command::Promote(_, _)
+            | Command::PromoteAll(_)
+            | Command::Compact
+            | Command::Map(_, _, _, _)
+            | Command::Unmap(_, _, _)
+            | Command::Drop(_)
+            | Command::Poke(_, _, _)
+            | Command::Set(_, _, _)
+            | Command::Break(_, _)
+            | Command::Unbreak(_, _) => None,
+        }
+    }
 }
 
 /// Why a script has no commands.

@@ -1,13 +1,18 @@
-use Rattle.std.proofs.Common.{sym, subst, ◌∙◌}
-use Rattle.machine_core.specs.Kept.{IsListed}
-use Rattle.machine_core.proofs.Listed.{relisted, room_left}
+use Rattle.std.proofs.Common.{arith, sym, subst, ◌∙◌}
+use Rattle.ascending_numbers.specs.Numbers.{IsListed}
+use Rattle.machine_core.proofs.Listed.{listed_below, relisted, room_for}
 use Rattle.machine_core.proofs.keeping.relist.Goals as goal
 
-pub list-requires-clause-room : goal.list-requires-clause-room
-list-requires-clause-room c = λ run. room_left c.args.processes.now c.args.running.now c.args.p c.requires (sym c.runs_in.ensures ∙ run)
+pub put-requires-clause-below : goal.put-requires-clause-below
+put-requires-clause-below c =
+    room_for c.args.processes.now c.args.running.now c.args.p c.requires (sym c.runs_in.ensures ∙ c.if-runs_in.true)
 
-pub returns : goal.returns
-returns c =
-    let left = c.list.ensures in
-    relisted c.args.processes.now c.args.running.now c.args.p c.requires c.list.new.running left.ascending
-    (subst (λ b. IsListed c.args.p b c.args.running.now.items c.list.new.running.items) c.runs_in.ensures left.listed) left.room
+pub put-requires-clause-all_below : goal.put-requires-clause-all_below
+put-requires-clause-all_below c =
+    listed_below c.args.processes.now c.args.running.now c.args.p c.requires (sym c.runs_in.ensures ∙ c.if-runs_in.true)
+
+pub returns-then-runs_in : goal.returns-then-runs_in
+returns-then-runs_in c = ?
+
+pub returns-else-runs_in : goal.returns-else-runs_in
+returns-else-runs_in c = ?

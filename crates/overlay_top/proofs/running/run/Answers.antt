@@ -1,7 +1,7 @@
 use Rattle.std.proofs.Common.{◌<◌, ◌≤◌, ◌+◌, ◌∙◌, ap, refl, subst, sym, arith, length, map}
 use Rattle.std.proofs.lemmas.List.{drop_all, length-map}
 use Rattle.command_core.specs.Sessions.{InSession}
-use Rattle.command_core.specs.Commands.{asks}
+use Rattle.script_text.specs.Given.{asks}
 use Rattle.overlay_top.proofs.Asks.{asked_at, fetches_next}
 use Rattle.overlay_top.proofs.Errors.{by_err, shelf_behind, sink_behind}
 use Rattle.overlay_top.proofs.Runs.{all_done, none_run, step, stop}

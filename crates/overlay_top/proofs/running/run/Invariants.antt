@@ -1,6 +1,6 @@
 use Rattle.std.proofs.Common.{◌≡◌, ℕ, List, take, map}
 use Rattle.ovl_io.specs.Outside.{AsksFor}
-use Rattle.command_core.specs.Commands.{asks}
+use Rattle.script_text.specs.Given.{asks}
 use Rattle.overlay_top.specs.Outcome.{modes_of, named}
 use Rattle.overlay_top.proofs.Runs.{SessionHasRun}
 use Rattle.overlay_top.proofs.running.run.Given as goal

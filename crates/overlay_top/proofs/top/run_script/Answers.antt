@@ -2,7 +2,7 @@ use Rattle.std.proofs.Common.{◌<◌, ◌≤◌, ◌∙◌, ap, sym, subst, ref
 use Rattle.std.specs.Prelude.{map}
 use Rattle.sizes.specs.declared.TheConstants.{MOST_SCRIPT_BYTES, MOST_SCRIPT_LINES}
 use Rattle.overlay_top.specs.declared.status.Status.TheVariants.{TooLong, Done}
-use Rattle.command_core.specs.Commands.{asks}
+use Rattle.script_text.specs.Given.{asks}
 use Rattle.overlay_top.specs.Outcome.{ended, run_all, names_asked, names_said, said, said_outcome}
 use Rattle.overlay_top.specs.Reading.{IsUnread}
 use Rattle.overlay_top.specs.Ends.{Ends, SaysAt, world_of}

@@ -4,7 +4,7 @@ use Rattle.std.specs.FinMap.{empty, get, get-empty}
 use Rattle.breakpoints.specs.Breakpoints.{Breaks}
 use Rattle.machine_core.specs.Machine.{Wholes}
 use Rattle.command_core.specs.State.{State, fresh}
-use Rattle.command_core.specs.Sessions.{Bases, InSession, IsSession}
+use Rattle.command_core.specs.Sessions.{Bases, InSession, IsSession, free_blocks_of}
 use Rattle.command_core.specs.Kept.{shown_session, shown_state, spaces_kept}
 use Rattle.command_core.specs.LikeLaws.{states_same}
 use Rattle.command_core.proofs.Places.{no_bases, session_start, wholes_start}
@@ -12,9 +12,13 @@ use Rattle.command_core.proofs.session.Session.new.Goals as goal
 
 pub returns-clause-session : goal.returns-clause-session
 returns-clause-session c =
-    let started : Wholes → Bases → InSession =
-    λ w bases. record { state = record { wholes = w; checkpoints = []; breakpoints = empty }; modes = record { frames = c.args.frames; quantum = c.args.quantum }; bases = bases } in
     let machine = c.in_ok-new.field-0 in
+    let started : Wholes → Bases → InSession = λ w bases. record {
+      state = record { wholes = w; checkpoints = []; breakpoints = empty };
+      modes = record { frames = c.args.frames; quantum = c.args.quantum };
+      bases = bases;
+      free_blocks = free_blocks_of machine.memory.pages.store.blocks;
+    } in
     let all = wholes_start machine (record { frames = c.args.frames; quantum = c.args.quantum }) c.in_ok-new.ensures.spaces c.in_ok-new.ensures.processes c.in_ok-new.ensures.lists in
     let none = no_bases machine (record { frames = c.args.frames; quantum = c.args.quantum }) c.in_ok-new.ensures.spaces c.in_ok-new.ensures.processes in
     ap (λ xs. shown_session c.in_ok-new.field-0 xs c.new-3.result (record { frames = c.args.frames; quantum = c.args.quantum })) c.new-2.ensures

@@ -1,17 +1,39 @@
 use Rattle.std.proofs.Common.{◌≡◌, ℕ, ◌+◌, ◌<◌, ◌≤◌, ◌==◌, zero, suc, Bool, true, false, cond, ◌||◌, List, [], ◌∷◌, length, get_or, sym, ap, subst, ◌∙◌, refl, arith, inl, inr}
 use Rattle.std.specs.List.{insert, remove}
-use Rattle.std.specs.List.Sorted.{IsStrictlyIncreasing}
+use Rattle.std.specs.List.Sorted.{IsBinarySearchResult, IsStrictlyIncreasing}
 use Rattle.std.proofs.lemmas.Bool.Decides.{nat_tests}
 use Rattle.std.proofs.lemmas.Bool.{cases_lt, cases_order}
 use Rattle.std.proofs.lemmas.List.Sorted.{searched}
-use Rattle.std.specs.List.Sorted.{IsBinarySearchResult}
 use Rattle.std.specs.Ordering.{nat_cmp}
 use Rattle.std.specs.Prelude.{Result, Ok, Err}
-use Rattle.ovl_io.specs.Keys.{by_key}
-use Rattle.machine_core.specs.Kept.{IsListed, IsPlaceOf, is_in}
-use Rattle.machine_core.specs.NumberLaws.{Rises, lower, none_below, other_is, same_is}
+use Rattle.number_maps.specs.Keys.{by_key}
+use Rattle.ascending_numbers.specs.Numbers.{IsListed, IsPlaceOf, is_in}
 
 -- Numbers that rise.
+
+-- each is greater than the one before, and the first isn't below a number
+abbrev pub Rises : ℕ → List ℕ → Type 0
+Rises k [] = Unit {0}
+Rises k (x ∷ xs) = (k ≤ x) × Rises (suc x) xs
+
+pub same_is : (n q : ℕ) → n ≡ q → (n == q) ≡ true
+same_is n q h = grind (arith, nat_tests)
+
+pub other_is : (n q : ℕ) → (n ≡ q → ⊥) → (n == q) ≡ false
+other_is n q h = by_test (n == q) refl
+  where
+    by_test : (b : Bool) → (n == q) ≡ b → b ≡ false
+    by_test true e = absurd (h (grind (arith, nat_tests)))
+    by_test false e = refl
+
+pub lower : (j k : ℕ) (xs : List ℕ) → j ≤ k → Rises k xs → Rises j xs
+lower j k [] le h = tt
+lower j k (x ∷ xs) le h = (omega (arith, h.0), h.1)
+
+pub none_below : (k : ℕ) (xs : List ℕ) (q : ℕ) → Rises k xs → q < k → is_in xs q ≡ false
+none_below k [] q h below = refl
+none_below k (x ∷ xs) q h below =
+    ap (λ b. b || is_in xs q) (other_is x q (λ e. absurd (omega (arith, h.0)))) ∙ none_below (suc x) xs q h.1 (omega (arith, h.0))
 
 pub rises_from : (k : ℕ) (xs : List ℕ) → IsStrictlyIncreasing xs → k ≤ get_or xs 0 k → Rises k xs
 rises_from k [] h low = tt
