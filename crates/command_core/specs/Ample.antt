@@ -17,7 +17,8 @@ use Rattle.command_core.specs.declared.process_changes.ProcessChange.TheVariants
 use Rattle.command_core.specs.State.{Checkpoint, Registry, State, registry_of}
 use Rattle.command_core.specs.Sessions.{InSession}
 use Rattle.command_core.specs.Rows.{Row, accepts, change_by, falls_short, first_refusal, row_is_full, ledger_by, plain_row, refused_row, refuses}
-use Rattle.command_core.specs.Giving.{ComesTo}
+use Rattle.command_core.specs.Giving.{ComesTo, is_full_answer}
+use Rattle.command_core.specs.CommandCases.{change_itself}
 use Rattle.command_core.specs.Changes.{change_row, drop_row, load_row, on_process}
 use Rattle.command_core.specs.Copies.{fork_row}
 use Rattle.command_core.specs.Debugging.{break_row, poke_row, unbreak_row}
@@ -30,78 +31,10 @@ use Rattle.command_core.specs.Standing.{GivesAs, SessionStandsFor}
 abbrev pub IsAmpleFor : Row → State → Type 0
 IsAmpleFor row state = AreAmple state.wholes.frames (ledger_by row.event state.wholes.ledger)
 
-abbrev pub is_full_answer : Answer → Bool
-is_full_answer Done = false
-is_full_answer (Loaded p pages entry) = false
-is_full_answer (Forked p q) = false
-is_full_answer (Saved p name space) = false
-is_full_answer (Refused code) = false
-is_full_answer (Full units limit) = true
-is_full_answer Memory = false
-
 -- so it is of a session, in any of the states that it stands for
 abbrev pub IsAmplyDone : (Registry → Row) → InSession → Answer → Type 0
 IsAmplyDone row session answer =
     (state : State) → SessionStandsFor session state → IsAmpleFor (row (registry_of state)) state → is_full_answer answer ≡ false
-
--- No row answers so by itself.
-
-on_process_itself : (p : ℕ) (row : Process → Registry → Row) → ((process : Process) (registry : Registry) → is_full_answer (row process registry).answer ≡ false)
-    → (registry : Registry) → is_full_answer (on_process p row registry).answer ≡ false
-on_process_itself p row each registry = by_found (get registry.processes p)
-  where
-    by_found : (o : Option Process) → is_full_answer (option_map_or (λ process. row process registry) o (refused_row NoProcess registry)).answer ≡ false
-    by_found None = refl
-    by_found (Some process) = each process registry
-
-on_checkpoint_itself : (name : List ℕ) (registry : Registry) → is_full_answer (on_checkpoint name (forget_row name) registry).answer ≡ false
-on_checkpoint_itself name registry = by_found (checkpoint_named name registry.checkpoints)
-  where
-    by_found : (o : Option Checkpoint) → is_full_answer (option_map_or (λ x. forget_row name x registry) o (refused_row NoCheckpoint registry)).answer ≡ false
-    by_found None = refl
-    by_found (Some x) = refl
-
-overlay_itself : (p : ℕ) (change : ProcessChange) (process : Process) (registry : Registry) → is_full_answer (process_row p change process registry).answer ≡ false
-overlay_itself p Speculate process registry = refl
-overlay_itself p Commit process registry = refl
-overlay_itself p Discard process registry = by_kept process.kept
-  where
-    by_kept : (o : Option Whole) → is_full_answer (option_map_or (λ whole. plain_row false (Some p) [] (event.Discard p) (leaves p (after_discard whole) registry)) o (refused_row NotSpeculating registry)).answer ≡ false
-    by_kept None = refl
-    by_kept (Some whole) = refl
-overlay_itself p (Promote address) process registry = refl
-overlay_itself p PromoteAll process registry = refl
-overlay_itself p (Map address n perms) process registry = refl
-overlay_itself p (Unmap address n) process registry = refl
-overlay_itself p (Set register value) process registry = refl
-
-change_itself : (file : List ℕ) (c : Command) (registry : Registry) → is_full_answer (change_row file c registry).answer ≡ false
-change_itself file (command.Fork p) registry = on_process_itself p (fork_row p) (λ process registry. refl) registry
-change_itself file (command.Checkpoint p name) registry = on_process_itself p (checkpoint_row p name) (λ process registry. refl) registry
-change_itself file (command.Restore p name) registry = on_process_itself p (restore_row p name) (λ process registry. refl) registry
-change_itself file (command.Drop p) registry = on_process_itself p (drop_row p) (λ process registry. refl) registry
-change_itself file (command.Poke p address bytes) registry = on_process_itself p (poke_row p address bytes) (λ process registry. refl) registry
-change_itself file (command.Break p address) registry = on_process_itself p (break_row p address) (λ process registry. refl) registry
-change_itself file (command.Unbreak p address) registry = on_process_itself p (unbreak_row p address) (λ process registry. refl) registry
-change_itself file (command.Speculate p) registry = on_process_itself p (process_row p Speculate) (overlay_itself p Speculate) registry
-change_itself file (command.Commit p) registry = on_process_itself p (process_row p Commit) (overlay_itself p Commit) registry
-change_itself file (command.Discard p) registry = on_process_itself p (process_row p Discard) (overlay_itself p Discard) registry
-change_itself file (command.Promote p address) registry = on_process_itself p (process_row p (Promote address)) (overlay_itself p (Promote address)) registry
-change_itself file (command.PromoteAll p) registry = on_process_itself p (process_row p PromoteAll) (overlay_itself p PromoteAll) registry
-change_itself file (command.Map p address n perms) registry = on_process_itself p (process_row p (Map address n perms)) (overlay_itself p (Map address n perms)) registry
-change_itself file (command.Unmap p address n) registry = on_process_itself p (process_row p (Unmap address n)) (overlay_itself p (Unmap address n)) registry
-change_itself file (command.Set p register value) registry = on_process_itself p (process_row p (Set register value)) (overlay_itself p (Set register value)) registry
-change_itself file (command.Load name) registry = refl
-change_itself file (command.Forget name) registry = on_checkpoint_itself name registry
-change_itself file command.Compact registry = refl
-change_itself file (command.Exec name turns) registry = refl
-change_itself file (command.Run turns) registry = refl
-change_itself file (command.Step p turns) registry = refl
-change_itself file (command.Regs p) registry = refl
-change_itself file (command.Dump p address n) registry = refl
-change_itself file (command.Disasm p address n) registry = refl
-change_itself file command.List registry = refl
-change_itself file command.Stats registry = refl
 
 second_and : (x y : Bool) → y ≡ false → (x && y) ≡ false
 second_and true y h = h

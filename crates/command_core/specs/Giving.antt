@@ -1,9 +1,9 @@
-use Rattle.std.specs.Prelude.{◌≡◌, ℕ, List, true}
+use Rattle.std.specs.Prelude.{◌≡◌, ℕ, Bool, List, false, true}
 use Rattle.breakpoints.specs.Breakpoints.{Breaks}
 use Rattle.machine_core.specs.Machine.{Machine}
 use Rattle.machine_core.specs.Load.{IsAsBefore}
 use Rattle.report_text.specs.declared.answer.Answer.{Answer}
-use Rattle.report_text.specs.declared.answer.Answer.TheVariants.{Memory}
+use Rattle.report_text.specs.declared.answer.Answer.TheVariants.{Done, Loaded, Forked, Saved, Refused, Full, Memory}
 use Rattle.command_core.specs.State.{AreLikeStates, Checkpoint, Registry, State, registry_of}
 use Rattle.command_core.specs.Sessions.{InSession, KeepsSession, session_state}
 use Rattle.command_core.specs.Rows.{Changed, Row, change_by, may_want_memory}
@@ -43,3 +43,13 @@ pub record MachineGives (row : Registry → Row) (old : Machine) (answer : Answe
       → GivesChange (row (registry_of (session_state old kept breaks))) (session_state old kept breaks) answer (session_state new kept breaks)
   pub keeps : KeepsSession old new
   pub want : WantKeepsMachine old answer new
+
+-- whether an answer says that the units don't suffice
+abbrev pub is_full_answer : Answer → Bool
+is_full_answer Done = false
+is_full_answer (Loaded p pages entry) = false
+is_full_answer (Forked p q) = false
+is_full_answer (Saved p name space) = false
+is_full_answer (Refused code) = false
+is_full_answer (Full units limit) = true
+is_full_answer Memory = false
