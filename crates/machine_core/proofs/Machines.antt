@@ -18,13 +18,13 @@ use Rattle.machine_core.specs.declared.process.SavedRegs.{SavedRegs}
 use Rattle.machine_core.specs.Machine.{AreLike, Machine, Processes, Wholes, has_saved, is_marked, is_running, kept_whole, keys_from, none_saved, processes_of, registers_at, registers_of, registers_shown, running_numbers, saved_of, shown_at, shown_process, spaces_of, whole_in, wholes}
 use Rattle.machine_core.specs.Turns.{AreLikeGuests, Guest, guest_at, guest_of, with_guest}
 use Rattle.machine_core.specs.Laws.{after_both, leads, processes_at, runs_shown, whole_by}
-use Rattle.machine_core.specs.Kept.{IsBeside, IsChanged, IsRunningList, guest_in, is_in, machine_of}
+use Rattle.machine_core.specs.Kept.{IsBeside, IsChanged, IsRunningList, guest_in, machine_of}
 use Rattle.machine_core.specs.NumberLaws.{entries_rise, in_passing, numbers_are, numbers_rise, rises_passing}
 use Rattle.machine_core.specs.NumberLaws as numbers
 use Rattle.machine_core.proofs.Stepping.{of_running}
 use Rattle.machine_core.proofs.Listed.{runs_found}
-use Rattle.ascending_numbers.specs.Numbers.{Numbers}
-use Rattle.ascending_numbers.specs.Rising.{Rises, found_in, none_below, rises, same_rising}
+use Rattle.ascending_numbers.specs.Numbers.{Numbers, is_in}
+use Rattle.ascending_numbers.specs.Rising.{Rises, found_in, none_below, rises, same_is, same_rising}
 
 -- What a machine says of its processes.
 
@@ -181,13 +181,13 @@ first_is : (ks : List ℕ) (p : ℕ) → Rises 0 ks → is_in ks p ≡ true → 
 first_is [] p h has least = cc
 first_is (x ∷ ks) p h has least = elim (cases_order x p) [
   | inl e ↦ ap Some e
-  | inr (inl below) ↦ absurd (let not_in = least x below in let here = ap (λ b. b || is_in ks x) (numbers.same_is x x refl) in cc)
+  | inr (inl below) ↦ absurd (let not_in = least x below in let here = ap (λ b. b || is_in ks x) (same_is x x refl) in cc)
   | inr (inr above) ↦ absurd (let not_in = none_below x (x ∷ ks) p (omega arith, h.1) above in cc)
 ]
 
 none_are : (ks : List ℕ) → ((q : ℕ) → is_in ks q ≡ false) → ks ≡ []
 none_are [] none = refl
-none_are (x ∷ ks) none = absurd (let not_in = none x in let here = ap (λ b. b || is_in ks x) (numbers.same_is x x refl) in cc)
+none_are (x ∷ ks) none = absurd (let not_in = none x in let here = ap (λ b. b || is_in ks x) (same_is x x refl) in cc)
 
 is_there : (o : Option declared.Process) → is_some o ≡ true → (from q : ℕ) → from ≤ q → option_map_or (λ process. nat_le from q) o false ≡ true
 is_there None h from q le = h

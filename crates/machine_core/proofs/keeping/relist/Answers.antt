@@ -12,7 +12,14 @@ put-requires-clause-all_below c =
     listed_below c.args.processes.now c.args.running.now c.args.p c.requires (sym c.runs_in.ensures ∙ c.if-runs_in.true)
 
 pub returns-then-runs_in : goal.returns-then-runs_in
-returns-then-runs_in c = ?
+returns-then-runs_in c =
+    let put = c.put.ensures in
+    relisted c.args.processes.now c.args.running.now c.args.p c.requires c.put.new.self
+    (subst (λ b. IsListed c.args.p b c.args.running.now.items c.put.new.self.items) (sym c.if-runs_in.true ∙ c.runs_in.ensures) put.listed) put.room
 
 pub returns-else-runs_in : goal.returns-else-runs_in
-returns-else-runs_in c = ?
+returns-else-runs_in c =
+    let taken = c.take.ensures in
+    relisted c.args.processes.now c.args.running.now c.args.p c.requires c.take.new.self
+    (subst (λ b. IsListed c.args.p b c.args.running.now.items c.take.new.self.items) (sym c.if-runs_in.false ∙ c.runs_in.ensures) taken.listed)
+    (omega (arith, taken.room))
