@@ -9,7 +9,7 @@ use Rattle.command_core.specs.declared.modes.Modes.{Modes}
 use Rattle.command_core.specs.declared.process_changes.ProcessChange.{ProcessChange}
 use Rattle.command_core.specs.declared.process_changes.ProcessChange.TheVariants.{Speculate, Commit, Discard, Promote, PromoteAll, Map, Unmap, Set}
 use Rattle.command_core.specs.State.{Checkpoint, Registry, State}
-use Rattle.command_core.specs.Rows.{Row, refused_row}
+use Rattle.command_core.specs.Rows.{Row, plain_row, refused_row}
 use Rattle.command_core.specs.Giving.{is_full_answer}
 use Rattle.command_core.specs.Copies.{fork_row}
 use Rattle.command_core.specs.ProcessChanges.{after_discard, leaves, process_row}

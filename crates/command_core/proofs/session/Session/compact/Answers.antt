@@ -24,7 +24,7 @@ pub returns-clause-settled : goal.returns-clause-settled
 unfolding free_blocks_of
 returns-clause-settled c =
     let settled = c.compact.ensures.settled in
-    (settled 0 (omega arith), settled 1 (omega arith), settled 2 (omega arith), settled 3 (omega arith), tt)
+    (settled 0 (omega arith), (settled 1 (omega arith), (settled 2 (omega arith), (settled 3 (omega arith), tt))))
 
 pub invariant_of-self : goal.invariant_of-self
 invariant_of-self c =
