@@ -73,7 +73,7 @@ module _ (flushes : Option ℕ) (from to : ℕ) (old : Machine) (memory : Transl
       let spaces : remove (state_of memory).spaces to ≡ (spaces_of old).spaces = alike _ _ (λ r. by_key r to
       (λ same. removed_same (state_of memory).spaces to r same ∙ sym (ap (get (spaces_of old).spaces) same ∙ none_is (get (spaces_of old).spaces to) absent))
       (λ other. removed_other (state_of memory).spaces to r other ∙ space_same (state_of memory) (spaces_of old) r (others_there r other) (copied.others r other))) in
-      (dropped.spaces ∙ (λ i. record { spaces = spaces i; frames = copied.frames i; zero_frame = copied.zero_frame i }), dropped.lists ∙ unseen, dropped.processes)
+      (dropped.spaces ∙ (λ i. record { spaces = spaces i; frames = copied.frames i; zero_frame = copied.zero_frame i }), dropped.lists ∙ unseen, dropped.processes, dropped.extension)
 
   -- the space alone
   is_saved : translations_of memory ≡ lists_of old → get old.processes to ≡ None → IsSaved from to old mid
@@ -82,7 +82,7 @@ module _ (flushes : Option ℕ) (from to : ℕ) (old : Machine) (memory : Transl
       let processes = processes_kept old memory to copied.others absent in
       record {
         memory = copied.memory;
-        after = λ i. record { processes = processes i; ledger = copied.ledger i; frames = copied.frames i; translations = same i };
+        after = λ i. record { processes = processes i; ledger = copied.ledger i; frames = copied.frames i; extension = old.extension; translations = same i };
         there = space_made;
         none_awaits = copied.awaiting;
         unmarked = copied.mark;
@@ -104,7 +104,7 @@ module _ (flushes : Option ℕ) (from to : ℕ) (old : Machine) (memory : Transl
     is_copied =
         let all_are = processes_put old memory to copied.others process (whole_in (spaces_of old) from process) whole_is in
         record {
-          after = λ i. record { processes = all_are i; ledger = copied.ledger i; frames = copied.frames i; translations = lists i };
+          after = λ i. record { processes = all_are i; ledger = copied.ledger i; frames = copied.frames i; extension = old.extension; translations = lists i };
           adopted = get_same old.processes to to process refl;
           there = space_made;
           none_awaits = copied.awaiting;
@@ -154,7 +154,7 @@ pub copies_not : (from to : ℕ) (old : Machine) (memory : TranslatedView) (e : 
 copies_not from to old memory (error.Full needed limit) full lists =
     let f = is_short (Copy from to) old memory needed limit full in
     (f.needed_is, f.limit_is, f.full, f.same)
-copies_not from to old memory error.Memory (within, same) lists = (fits (Copy from to) old within, (same, lists, refl))
+copies_not from to old memory error.Memory (within, same) lists = (fits (Copy from to) old within, (same, lists, refl, refl))
 
 -- What stays where nothing was made, and what a row comes to that copies a space.
 

@@ -21,3 +21,4 @@ pub mod Debugging
 pub mod Bytes
 pub mod Stores
 pub mod Wanting
+pub mod Extending

@@ -42,6 +42,7 @@ like_accepted : (p : ℕ) (file : List ℕ) (a w : Wholes) → AreLike a (with_l
       processes = insert w.processes p (loaded_process file);
       ledger = ledger_by (event.Load p (load_pages file)) w.ledger;
       frames = w.frames;
+      extension = w.extension;
       translations = w.translations;
     })
 unfolding ledger_by loaded_ledger

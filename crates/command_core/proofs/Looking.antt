@@ -210,4 +210,4 @@ pub counts_are : (machine : Machine) (memory : TranslatedView) (used most own hi
     → ◌≡◌ {A = Counts} (record { units = used; limit = most; lines = own; hits = hits; misses = misses }) (counts_of (wholes machine))
 counts_are machine memory used most own hits misses same is_used is_most is_own is_hits is_misses =
     (λ i. record { units = is_used i; limit = is_most i; lines = is_own i; hits = is_hits i; misses = is_misses i })
-    ∙ ap (λ (m : TranslatedView). counts_of (wholes (record { memory = m; processes = machine.processes }))) same
+    ∙ ap (λ (m : TranslatedView). counts_of (wholes (record { memory = m; processes = machine.processes; extension = machine.extension }))) same

@@ -155,7 +155,7 @@ session_kept old new spaces numbers is same free = record {
     before : (p : ℕ) → get new.processes p ≡ None → get old.processes p ≡ None
     before p none = none_is (get old.processes p) (sym (same.processes p) ∙ ap is_some none)
 
-module _ (machine : Machine) (modes : Modes) (none : IsEmptyState modes.frames (spaces_of machine)) (no_processes : machine.processes ≡ empty) where
+module _ (machine : Machine) (modes : Modes) (none : IsEmptyState modes.frames (spaces_of machine)) (no_processes : machine.processes ≡ empty) (extension : machine.extension ≡ modes.extension) where
   no_space_yet : (p : ℕ) → get (spaces_of machine).spaces p ≡ None
   no_space_yet p = ap (λ m. get m p) none.spaces ∙ get-empty nat_cmp p
 
@@ -186,7 +186,7 @@ module _ (machine : Machine) (modes : Modes) (none : IsEmptyState modes.frames (
   no_bases = ap (viewed (λ p (_ : SpaceState). base_of (spaces_of machine) p)) none.spaces ∙ viewed_empty (λ p (_ : SpaceState). base_of (spaces_of machine) p)
 
   pub wholes_start : lists_of machine ≡ no_translations → wholes machine ≡ (fresh modes).wholes
-  wholes_start no_lists = λ i. record { processes = no_wholes i; ledger = no_books i; frames = none.count i; translations = no_lists i }
+  wholes_start no_lists = λ i. record { processes = no_wholes i; ledger = no_books i; frames = none.count i; extension = extension i; translations = no_lists i }
 
 -- a free space isn't one that isn't there
 not_next : (machine : Machine) (n q : ℕ) → has_space machine n ≡ false → HasNoProcess machine q → q ≡ n → ⊥

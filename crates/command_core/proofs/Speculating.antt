@@ -52,6 +52,7 @@ wholes_left e flushes old processes = record {
   processes = processes;
   ledger = ledger_by e (books (spaces_of old));
   frames = (spaces_of old).frames;
+  extension = old.extension;
   translations = flushed_by flushes (lists_of old);
 }
 
@@ -83,7 +84,7 @@ module _ (p : ℕ) (process : declared.Process) (old : Machine) (memory : Transl
         → (state_of memory).frames ≡ (spaces_of old).frames → translations_of memory ≡ flushed_by flushes (lists_of old)
         → AreLike (wholes new) (wholes_left e flushes old (insert (processes_of old) p left))
     unfolding ledger_by
-    wholes_are flushes ledger frames lists = record { processes = processes_are; ledger = ledger; frames = frames; translations = lists }
+    wholes_are flushes ledger frames lists = record { processes = processes_are; ledger = ledger; frames = frames; extension = refl; translations = lists }
 
     pub stays : (flushes : Option ℕ) → translations_of memory ≡ flushed_by flushes (lists_of old) → ((q : ℕ) → holds_space (state_of memory) q ≡ holds_space (spaces_of old) q)
         → (space_in (state_of memory) p).awaiting ≡ (space_in (spaces_of old) p).awaiting
@@ -116,7 +117,7 @@ module _ (p : ℕ) (process : declared.Process) (old : Machine) (memory : Transl
 
   -- the process in its place again
   pub put_again : with_process_at mid p process ≡ mid
-  put_again = ap (λ (ps : FinMap nat_cmp declared.Process). record { memory = memory; processes = ps }) (insert_kept old.processes p process there)
+  put_again = ap (λ (ps : FinMap nat_cmp declared.Process). record { memory = memory; processes = ps; extension = old.extension }) (insert_kept old.processes p process there)
 
   left_again : insert (processes_of old) p before ≡ processes_of old
   left_again = insert_kept (processes_of old) p before (processes_at old p ∙ ap (option_map (whole_in (spaces_of old) p)) there)

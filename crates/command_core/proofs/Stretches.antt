@@ -88,11 +88,11 @@ pub record IsAt (ps : Wholes) (p : ℕ) (guest : Guest) : Type 0 where
 pub is_at : (ps : Wholes) (p : ℕ) (process : Process) → get ps.processes p ≡ Some process → IsAt ps p (guest_of ps process)
 is_at ps p process there = record {
   there = ap (option_map (guest_of ps)) there;
-  same = ap (λ (m : Processes). record { processes = m; ledger = ps.ledger; frames = ps.frames; translations = ps.translations }) (insert_kept ps.processes p process there);
+  same = ap (λ (m : Processes). record { processes = m; ledger = ps.ledger; frames = ps.frames; extension = ps.extension; translations = ps.translations }) (insert_kept ps.processes p process there);
 }
 
 put_over : (ps : Wholes) (p : ℕ) (a b : Guest) → with_guest (with_guest ps p a) p b ≡ with_guest ps p b
-put_over ps p a b = ap (λ (m : Processes). record { processes = m; ledger = b.ledger; frames = b.frames; translations = b.translations }) (insert_over ps.processes p a.process b.process)
+put_over ps p a b = ap (λ (m : Processes). record { processes = m; ledger = b.ledger; frames = b.frames; extension = b.extension; translations = b.translations }) (insert_over ps.processes p a.process b.process)
 
 put_at : (ps : Wholes) (p : ℕ) (guest : Guest) → IsAt (with_guest ps p guest) p guest
 put_at ps p guest = record {
@@ -122,7 +122,7 @@ steps_by false (Faults kind address) needed limit is = cc
 
 still_runs : (p : ℕ) (guest : Guest) → outcome_of p guest ≡ outcome.Stepped → runs (executed p guest).process.state ≡ true
 still_runs p guest is =
-    let parts = steps_by (is_full p guest) (execution_of guest.process).upshot (units_needed p guest) (unit_limit guest.frames) is in
+    let parts = steps_by (is_full p guest) (execution_of guest.extension guest.process).upshot (units_needed p guest) (unit_limit guest.frames) is in
     ap (λ b. runs (cond b (guest_refused p guest) (guest_executed p guest)).process.state) parts.0 ∙ ap (λ u. runs (state_executed u)) parts.1
 
 -- turns without a line: what is left comes to what all came to

@@ -1,5 +1,5 @@
-use Rattle.std.specs.Prelude.{ℕ, List, Option, refl}
-use Rattle.std.specs.Coded.{Coded, code_by, coded×, coded_ℕ, coded_list, coded_option}
+use Rattle.std.specs.Prelude.{ℕ, Bool, List, Option, refl}
+use Rattle.std.specs.Coded.{Coded, code_by, coded×, coded_bool, coded_ℕ, coded_list, coded_option}
 use Rattle.std.specs.FinMap.{code}
 use Rattle.std.specs.FinSet.{code as set_code}
 use Rattle.breakpoints.specs.Breakpoints.{Breaks}
@@ -46,10 +46,10 @@ ledger_code = code coded_ℕ (code coded_ℕ holding_code)
 
 abbrev pub wholes_code : Coded Wholes
 wholes_code =
-    code_by (Processes × (Ledger × (ℕ × BareTranslations)))
-    (coded× processes_code (coded× ledger_code (coded× coded_ℕ (translations_code coded_unit))))
-    (λ w. (w.processes, (w.ledger, (w.frames, w.translations))))
-    (λ t. record { processes = t.0; ledger = t.1.0; frames = t.1.1.0; translations = t.1.1.1 }) (λ _. refl)
+    code_by (Processes × (Ledger × (ℕ × (Bool × BareTranslations))))
+    (coded× processes_code (coded× ledger_code (coded× coded_ℕ (coded× coded_bool (translations_code coded_unit)))))
+    (λ w. (w.processes, (w.ledger, (w.frames, (w.extension, w.translations)))))
+    (λ t. record { processes = t.0; ledger = t.1.0; frames = t.1.1.0; extension = t.1.1.1.0; translations = t.1.1.1.1 }) (λ _. refl)
 
 abbrev pub checkpoint_code : Coded Checkpoint
 checkpoint_code =
@@ -69,7 +69,9 @@ abbrev pub bases_code : Coded Bases
 bases_code = code coded_ℕ bytes_code
 
 abbrev pub modes_code : Coded Modes
-modes_code = code_by (ℕ × ℕ) (coded× coded_ℕ coded_ℕ) (λ m. (m.frames, m.quantum)) (λ t. record { frames = t.0; quantum = t.1 }) (λ _. refl)
+modes_code =
+    code_by (ℕ × (ℕ × Bool)) (coded× coded_ℕ (coded× coded_ℕ coded_bool)) (λ m. (m.frames, (m.quantum, m.extension)))
+    (λ t. record { frames = t.0; quantum = t.1.0; extension = t.1.1 }) (λ _. refl)
 
 abbrev pub session_code : Coded InSession
 session_code =

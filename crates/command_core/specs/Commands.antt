@@ -2,6 +2,7 @@ use Rattle.std.specs.Prelude.{◌≡◌, ℕ, zero, suc, ◌+◌, ◌-◌, ◌*�
 use Rattle.std.specs.FinMap.{entries, get, len}
 use Rattle.sizes.specs.declared.TheConstants.{MOST_FILE_BYTES}
 use Rattle.ovl_io.specs.Memory.{Memory, bytes_at, first_denied}
+use Rattle.rv_mul.specs.Tables.{table_of}
 use Rattle.rv_execute.specs.Calls.{word_at}
 use Rattle.rv_execute.specs.Registers.{Registers, register}
 use Rattle.machine_core.specs.Process.{Process, is_speculating, runs}
@@ -13,7 +14,7 @@ use Rattle.report_text.specs.declared.answer.Answer.TheVariants.{Loaded}
 use Rattle.report_text.specs.declared.answer.Code.TheVariants.{NoProcess, Ended, Unmapped}
 use Rattle.report_text.specs.declared.TheConstants.{ROW_BYTES}
 use Rattle.report_text.specs.Answers.{answer_text}
-use Rattle.report_text.specs.Lines.{checkpoint_line, disasm_line, dump_line, list_line, process_line, register_line, regs_line, stats_line}
+use Rattle.report_text.specs.Lines.{checkpoint_line, disasm_line_by, dump_line, list_line, process_line, register_line, regs_line, stats_line}
 use Rattle.command_core.specs.declared.modes.Modes.{Modes}
 use Rattle.command_core.specs.declared.TheConstants.{WORD_BYTES}
 use Rattle.command_core.specs.declared.session.Counts.{Counts}
@@ -165,7 +166,8 @@ abbrev pub regs_of : {S : Type 0} → ℕ → Option Process → S → Performed
 regs_of p None state = told false (refuses NoProcess state)
 regs_of p (Some process) state = text_printed false (regs_text p process) state
 
--- the lines of bytes of a memory from an address on, up to 16 a line; and those of words, as instructions
+-- the lines of bytes of a memory from an address on, up to 16 a line; and those of words, as instructions, with extension M
+-- or without
 abbrev pub dump_row : Memory → ℕ → ℕ → List ℕ
 dump_row memory address count = dump_line address (bytes_at memory address (min ROW_BYTES count))
 
@@ -177,12 +179,13 @@ dump_from (suc rows) memory address count =
 abbrev pub dump_text : Memory → ℕ → ℕ → List ℕ
 dump_text memory address count = dump_from ((count + (ROW_BYTES - 1)) / ROW_BYTES) memory address count
 
-abbrev pub disasm_row : Memory → ℕ → List ℕ
-disasm_row memory address = disasm_line address (word_at memory address)
+abbrev pub disasm_row : Bool → Memory → ℕ → List ℕ
+disasm_row extension memory address = disasm_line_by (table_of extension).has address (word_at memory address)
 
-unfoldable pub disasm_text : Memory → ℕ → ℕ → List ℕ
-disasm_text memory address zero = []
-disasm_text memory address (suc words) = disasm_row memory address ++ disasm_text memory (address + WORD_BYTES) words
+unfoldable pub disasm_text : Bool → Memory → ℕ → ℕ → List ℕ
+disasm_text extension memory address zero = []
+disasm_text extension memory address (suc words) =
+    disasm_row extension memory address ++ disasm_text extension memory (address + WORD_BYTES) words
 
 -- what is printed of n bytes of a process from an address on: it has to be there, and so does each byte, whatever the permissions
 abbrev pub prints_read : {S : Type 0} → (Memory → List ℕ) → Memory → Option ℕ → S → Performed S
@@ -247,9 +250,9 @@ module _ {S : Type 0} (by : Rules S) where
   abbrev pub dump_done : ℕ → ℕ → ℕ → S → Performed S
   dump_done p address count state = prints_of address count (λ memory. dump_text memory address count) (process_in p state) state
 
-  abbrev pub disasm_done : ℕ → ℕ → ℕ → S → Performed S
-  disasm_done p address words state =
-      prints_of address (WORD_BYTES * words) (λ memory. disasm_text memory address words) (process_in p state) state
+  abbrev pub disasm_done : Bool → ℕ → ℕ → ℕ → S → Performed S
+  disasm_done extension p address words state =
+      prints_of address (WORD_BYTES * words) (λ memory. disasm_text extension memory address words) (process_in p state) state
 
   -- What each command comes to, with the file that it has, by what is fixed for the run: turns and printed lines, and the
   -- changes, each by its row.
@@ -261,7 +264,7 @@ module _ {S : Type 0} (by : Rules S) where
   performed_by modes file command.Stats = by.by_ledger stats_done
   performed_by modes file (command.Regs p) = regs_done p
   performed_by modes file (command.Dump p address count) = dump_done p address count
-  performed_by modes file (command.Disasm p address words) = disasm_done p address words
+  performed_by modes file (command.Disasm p address words) = disasm_done modes.extension p address words
   performed_by modes file (Load name) = change_told file (Load name)
   performed_by modes file (command.Fork p) = change_told file (command.Fork p)
   performed_by modes file (command.Checkpoint p name) = change_told file (command.Checkpoint p name)

@@ -228,6 +228,7 @@ module _ (row : Row) (a b : State) (like : AreLikeStates a b) where
             processes = refl;
             ledger = like_ledger;
             frames = like.wholes.frames;
+            extension = like.wholes.extension;
             translations = ap (flushed_by row.flushes) like.wholes.translations;
           };
           checkpoints = refl;
@@ -393,7 +394,7 @@ like_performed modes file command a b like = by_case command (goes_by rules rule
     by_case _ ByStats = record { text = stats_same a b like; after = like; wants = refl }
     by_case _ (ByRegs p) = like_regs p a b like
     by_case _ (ByDump p address count) = like_prints p address count (λ memory. dump_text memory address count) a b like
-    by_case _ (ByDisasm p address words) = like_prints p address (WORD_BYTES * words) (λ memory. disasm_text memory address words) a b like
+    by_case _ (ByDisasm p address words) = like_prints p address (WORD_BYTES * words) (λ memory. disasm_text modes.extension memory address words) a b like
     by_case _ (ByChange c here there counts) =
         subst (λ x. AreLikePerformed x (performed modes file c b)) (sym (here a))
         (subst (λ y. AreLikePerformed (change_told rules file c a) y) (sym (here b)) (like_changed file c a b like))

@@ -1,4 +1,4 @@
-use Rattle.std.specs.Prelude.{◌≡◌, ℕ, ◌<◌, ◌==◌, ◌&&◌, nat_eq, not, true, List, [], ◌∷◌, map, None}
+use Rattle.std.specs.Prelude.{◌≡◌, ℕ, ◌<◌, ◌==◌, ◌&&◌, nat_eq, not, true, List, [], ◌∷◌, map, None, Bool}
 use Rattle.std.specs.Option.{is_some}
 use Rattle.std.specs.List.{AllByRecursion, IsDistinct, list_any}
 use Rattle.std.specs.Ordering.{nat_cmp}
@@ -13,7 +13,7 @@ use Rattle.translation_cache.specs.Absent.{HasNone}
 use Rattle.space_maps.specs.Spaces.{space_in}
 use Rattle.machine_core.specs.Machine.{Machine, has_saved, has_space, is_marked, lists_of, spaces_of, wholes}
 use Rattle.command_core.specs.declared.modes.Modes.{Modes}
-use Rattle.command_core.specs.State.{Checkpoint, State, fresh}
+use Rattle.command_core.specs.State.{Checkpoint, State, extended, fresh}
 
 -- What a session keeps, and the state that it shows.
 
@@ -95,6 +95,11 @@ pub record InSession : Type 0 where
 -- one without a process
 abbrev pub fresh_session : Modes → List ℕ → InSession
 fresh_session modes free_blocks = record { state = fresh modes; modes = modes; bases = empty; free_blocks = free_blocks }
+
+-- with extension M or without it; all else stays
+abbrev pub extended_session : Bool → InSession → InSession
+extended_session extension session =
+    record session { state = extended extension session.state; modes = record (session.modes) { extension = extension } }
 
 -- all but the processes is as it was
 pub record KeepsRest (old new : InSession) : Type 0 where

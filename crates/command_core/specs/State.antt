@@ -8,7 +8,7 @@ use Rattle.ledger.specs.Ledger.{Ledger}
 use Rattle.translation_cache.specs.Bare.{BareTranslations}
 use Rattle.translation_cache.specs.Translations.{no_translations}
 use Rattle.machine_core.specs.Process.{Process, Whole}
-use Rattle.machine_core.specs.Machine.{AreLike, Processes, Wholes}
+use Rattle.machine_core.specs.Machine.{AreLike, Processes, Wholes, with_extension}
 use Rattle.command_core.specs.declared.modes.Modes.{Modes}
 
 -- A checkpoint: its name, the number of its space, and the whole that is kept.
@@ -27,7 +27,7 @@ pub record State : Type 0 where
 -- the state at the start
 abbrev pub fresh : Modes → State
 fresh modes = record {
-  wholes = record { processes = empty; ledger = empty; frames = modes.frames; translations = no_translations };
+  wholes = record { processes = empty; ledger = empty; frames = modes.frames; extension = modes.extension; translations = no_translations };
   checkpoints = [];
   breakpoints = empty;
 }
@@ -35,8 +35,8 @@ fresh modes = record {
 abbrev pub with_wholes : Wholes → State → State
 with_wholes wholes state = record state { wholes = wholes }
 
--- What a command looks at and leaves: all of the state but the ledger, the frames and the translations. Those say only whether there are
--- units enough, and what is counted.
+-- What a command looks at and leaves: all of the state but the ledger, the frames, whether extension M is there, and the translations. Those
+-- say only whether there are units enough, what the words of turns mean, and what is counted.
 pub record Registry : Type 0 where
   pub processes : Processes
   pub checkpoints : List Checkpoint
@@ -54,10 +54,14 @@ abbrev pub registry_of : State → Registry
 registry_of state =
     record { processes = state.wholes.processes; checkpoints = state.checkpoints; breakpoints = state.breakpoints }
 
+-- the state with extension M or without
+abbrev pub extended : Bool → State → State
+extended extension state = with_wholes (with_extension extension state.wholes) state
+
 -- the state with another registry, another ledger and other translations
 abbrev pub with_registry : Registry → Ledger → BareTranslations → State → State
 with_registry registry ledger translations state = record {
-  wholes = record { processes = registry.processes; ledger = ledger; frames = state.wholes.frames; translations = translations };
+  wholes = record { processes = registry.processes; ledger = ledger; frames = state.wholes.frames; extension = state.wholes.extension; translations = translations };
   checkpoints = registry.checkpoints;
   breakpoints = registry.breakpoints;
 }

@@ -12,34 +12,39 @@ use Rattle.command_core.specs.Turns.{Progress, Ran, TurnRules, last_reached, nex
 use Rattle.command_core.specs.Commands.{Performed, Rules, text_printed}
 
 -- The unbounded machine: it copies the whole memory at each fork, checkpoint and speculation start, and there is always room. It has
--- no ledger, no frames and no limit, and nothing is ever full.
+-- no ledger, no frames and no limit, and nothing is ever full. It has extension M or not.
 
 -- Turns: each is the step of its process.
-abbrev pub step_among : Processes → ℕ → Turn
-step_among processes p = option_map_or (λ process. (step_of p process).turn) (get processes p) Stepped
+abbrev pub step_among : Bool → Processes → ℕ → Turn
+step_among extension processes p = option_map_or (λ process. (step_of extension p process).turn) (get processes p) Stepped
 
-abbrev pub after_step_of : Processes → ℕ → Processes
-after_step_of processes p = option_map_or (λ process. insert processes p (process_after p process)) (get processes p) processes
+abbrev pub after_step_of : Bool → Processes → ℕ → Processes
+after_step_of extension processes p =
+    option_map_or (λ process. insert processes p (process_after extension p process)) (get processes p) processes
 
-abbrev pub unbounded_turns : Breaks → TurnRules Processes
-unbounded_turns breaks = record { next = next_among; broken = last_reached breaks; turn = step_among; after = after_step_of }
+abbrev pub unbounded_turns : Bool → Breaks → TurnRules Processes
+unbounded_turns extension breaks =
+    record { next = next_among; broken = last_reached breaks; turn = step_among extension; after = after_step_of extension }
 
--- Its state: what is registered; and the lines of the commands that are told by the ledger, one after the other.
+-- Its state: what is registered; whether it has extension M; and the lines of the commands that are told by the ledger, one after the
+-- other.
 pub record Unbounded : Type 0 where
   pub registry : Registry
+  pub extension : Bool
   pub told : List (List ℕ)
 
 abbrev pub with_processes : Processes → Unbounded → Unbounded
 with_processes processes state = record state { registry = record (state.registry) { processes = processes } }
 
 -- all turns that are left of a run
-abbrev pub unbounded_ran : Breaks → Processes → Progress → Ran Processes
-unbounded_ran breaks processes run = ran_by (unbounded_turns breaks) (run.turns - run.taken) processes run
+abbrev pub unbounded_ran : Unbounded → Progress → Ran Processes
+unbounded_ran state run =
+    ran_by (unbounded_turns state.extension state.registry.breakpoints) (run.turns - run.taken) state.registry.processes run
 
 abbrev pub takes_unbounded : Progress → Unbounded → Performed Unbounded
 takes_unbounded run state = record {
-  text = ran_text (unbounded_ran state.registry.breakpoints state.registry.processes run);
-  after = with_processes (unbounded_ran state.registry.breakpoints state.registry.processes run).after state;
+  text = ran_text (unbounded_ran state run);
+  after = with_processes (unbounded_ran state run).after state;
   wants_memory = false;
 }
 
@@ -54,9 +59,9 @@ abbrev pub wants_unbounded : Row → Unbounded → Bool
 wants_unbounded row state = wants_by row.memory (is_some (first_refusal row.refusals)) false
 
 -- what is told by the ledger: the next of those lines, and nothing changes
-abbrev pub next_told : List (List ℕ) → Registry → Performed Unbounded
-next_told [] registry = text_printed false [] (record { registry = registry; told = [] })
-next_told (line ∷ told) registry = text_printed false line (record { registry = registry; told = told })
+abbrev pub next_told : List (List ℕ) → Unbounded → Performed Unbounded
+next_told [] state = text_printed false [] (record state { told = [] })
+next_told (line ∷ told) state = text_printed false line (record state { told = told })
 
 abbrev pub unbounded : Rules Unbounded
 unbounded = record {
@@ -64,9 +69,10 @@ unbounded = record {
   change = change_unbounded;
   wants = wants_unbounded;
   turns = takes_unbounded;
-  by_ledger = λ done state. next_told state.told state.registry;
+  by_ledger = λ done state. next_told state.told state;
 }
 
 -- it at the start
-abbrev pub fresh_unbounded : List (List ℕ) → Unbounded
-fresh_unbounded told = record { registry = record { processes = empty; checkpoints = []; breakpoints = empty }; told = told }
+abbrev pub fresh_unbounded : Bool → List (List ℕ) → Unbounded
+fresh_unbounded extension told =
+    record { registry = record { processes = empty; checkpoints = []; breakpoints = empty }; extension = extension; told = told }

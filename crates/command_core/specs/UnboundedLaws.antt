@@ -7,10 +7,12 @@ use Rattle.ovl_io.specs.Memory.{Memory as Contents, first_denied}
 use Rattle.ovl_io.specs.declared.turn.Turn.{Turn}
 use Rattle.ovl_io.specs.declared.turn.Turn.TheVariants as turn
 use Rattle.rv_execute.specs.Registers.{Registers}
+use Rattle.rv_mul.specs.Tables.{table_of}
 use Rattle.machine_core.specs.Process.{Process, is_speculating, runs}
 use Rattle.machine_core.specs.Machine.{Processes, Wholes, unit_limit}
 use Rattle.machine_core.specs.Turns.{after_turn, guest_after, guest_of, guest_refused, guest_stepped, is_full, process_after, step_of, turn_in, turn_of, units_needed, with_guest}
 use Rattle.machine_core.specs.Ample.{is_full_turn, step_fits}
+use Rattle.machine_core.specs.Laws.{after_extension}
 use Rattle.report_text.specs.declared.answer.Answer.{Answer}
 use Rattle.report_text.specs.declared.answer.Answer.TheVariants.{Done, Loaded, Forked, Saved, Refused, Full, Memory}
 use Rattle.report_text.specs.declared.answer.Code.{Code}
@@ -18,7 +20,7 @@ use Rattle.report_text.specs.declared.answer.Code.TheVariants.{Ended, NoProcess,
 use Rattle.report_text.specs.declared.answer.Stop.{Stop}
 use Rattle.report_text.specs.declared.answer.Stop.TheVariants as stop
 use Rattle.report_text.specs.Answers.{answer_text, stop_text, turn_text}
-use Rattle.report_text.specs.FullLines.{AreWholeLines, answer_lines, answer_shows, behind_lines, ends_checkpoint, ends_disasm, ends_dump, ends_list, ends_process, ends_register, ends_regs, ends_stats, has_full_line, lines_both, no_lines, stop_lines, turn_lines, turn_shows}
+use Rattle.report_text.specs.FullLines.{AreWholeLines, answer_lines, answer_shows, behind_lines, ends_checkpoint, ends_disasm_by, ends_dump, ends_list, ends_process, ends_register, ends_regs, ends_stats, has_full_line, lines_both, no_lines, stop_lines, turn_lines, turn_shows}
 use Rattle.script_text.specs.declared.command.Command.{Command}
 use Rattle.command_core.specs.declared.modes.Modes.{Modes}
 use Rattle.command_core.specs.declared.TheConstants.{WORD_BYTES}
@@ -35,37 +37,37 @@ use Rattle.command_core.specs.Unbounded.{Unbounded, change_unbounded, does_row, 
 -- A turn: it is full, or it is the step.
 pub data ComesOut (state : Wholes) (p : ℕ) : Type 0 where
   IsFullTurn : (units limit : ℕ) → turn_of state p ≡ turn.Full units limit → ComesOut state p
-  IsStep : turn_of state p ≡ step_among state.processes p → is_full_turn (step_among state.processes p) ≡ false
-      → (after_turn state p).processes ≡ after_step_of state.processes p → ComesOut state p
+  IsStep : turn_of state p ≡ step_among state.extension state.processes p → is_full_turn (step_among state.extension state.processes p) ≡ false
+      → (after_turn state p).processes ≡ after_step_of state.extension state.processes p → ComesOut state p
 
 -- the same of a process that may be there, where it is known whether there aren't units enough
 abbrev turn_found : Wholes → ℕ → Option Process → Turn
 turn_found state p o = option_map_or (turn_in p) (option_map (guest_of state) o) turn.Stepped
 
-abbrev step_found : ℕ → Option Process → Turn
-step_found p o = option_map_or (λ process. (step_of p process).turn) o turn.Stepped
+abbrev step_found : Bool → ℕ → Option Process → Turn
+step_found extension p o = option_map_or (λ process. (step_of extension p process).turn) o turn.Stepped
 
 abbrev after_found : Wholes → ℕ → Option Process → Wholes
 after_found state p o = option_map_or (λ guest. with_guest state p (guest_after p guest)) (option_map (guest_of state) o) state
 
 abbrev step_left : Wholes → ℕ → Option Process → Processes
-step_left state p o = option_map_or (λ process. insert state.processes p (process_after p process)) o state.processes
+step_left state p o = option_map_or (λ process. insert state.processes p (process_after state.extension p process)) o state.processes
 
 data Found (state : Wholes) (p : ℕ) (o : Option Process) : Type 0 where
   FullThere : (units limit : ℕ) → turn_found state p o ≡ turn.Full units limit → Found state p o
-  StepThere : turn_found state p o ≡ step_found p o → is_full_turn (step_found p o) ≡ false
+  StepThere : turn_found state p o ≡ step_found state.extension p o → is_full_turn (step_found state.extension p o) ≡ false
       → (after_found state p o).processes ≡ step_left state p o → Found state p o
 
 module _ (state : Wholes) (p : ℕ) where
   by_full : (process : Process) (full : Bool) → is_full p (guest_of state process) ≡ full → Found state p (Some process)
   by_full process true is =
       FullThere (units_needed p (guest_of state process)) (unit_limit state.frames)
-      (ap (λ b. cond b (turn.Full (units_needed p (guest_of state process)) (unit_limit state.frames)) (step_of p process).turn) is)
+      (ap (λ b. cond b (turn.Full (units_needed p (guest_of state process)) (unit_limit state.frames)) (step_of state.extension p process).turn) is)
   by_full process false is =
       let guest = guest_of state process in
       StepThere
-      (ap (λ b. cond b (turn.Full (units_needed p guest) (unit_limit state.frames)) (step_of p process).turn) is)
-      (step_fits p process)
+      (ap (λ b. cond b (turn.Full (units_needed p guest) (unit_limit state.frames)) (step_of state.extension p process).turn) is)
+      (step_fits state.extension p process)
       (ap (λ b. (with_guest state p (cond b (guest_refused p guest) (guest_stepped p guest))).processes) is)
 
   by_process : (o : Option Process) → Found state p o
@@ -80,24 +82,26 @@ module _ (state : Wholes) (p : ℕ) where
   comes_out = out (by_process (get state.processes p))
 
 -- Turns, one after the other.
-pub record RanSame (r : Ran Wholes) (s : Ran Processes) : Type 0 where
+pub record RanSame (extension : Bool) (r : Ran Wholes) (s : Ran Processes) : Type 0 where
   pub events : r.events ≡ s.events
   pub stop_is : r.stop ≡ s.stop
   pub taken : r.taken ≡ s.taken
   pub after : r.after.processes ≡ s.after
+  pub extension_is : r.after.extension ≡ extension
 
 abbrev SaysNoFull : Ran Wholes → List ℕ → Type 0
 SaysNoFull r behind = has_full_line (ran_text r ++ behind) ≡ false
 
-same_stopped : (why : Stop) (state : Wholes) (run : Progress) → RanSame (stopped why state run) (stopped why state.processes run)
-same_stopped why state run = record { events = refl; stop_is = refl; taken = refl; after = refl }
+same_stopped : (why : Stop) (state : Wholes) (run : Progress) → RanSame state.extension (stopped why state run) (stopped why state.processes run)
+same_stopped why state run = record { events = refl; stop_is = refl; taken = refl; after = refl; extension_is = refl }
 
-same_first : (p : ℕ) (came : Turn) (r : Ran Wholes) (s : Ran Processes) → RanSame r s → RanSame (first_event p came r) (first_event p came s)
-same_first p came r s same = record {
+same_first : (extension : Bool) (p : ℕ) (came : Turn) (r : Ran Wholes) (s : Ran Processes) → RanSame extension r s → RanSame extension (first_event p came r) (first_event p came s)
+same_first extension p came r s same = record {
   events = ap (λ (es : List (ℕ × Turn)). (p, came) ∷ es) same.events;
   stop_is = same.stop_is;
   taken = same.taken;
   after = same.after;
+  extension_is = same.extension_is;
 }
 
 -- the text of an event, and then that of the others
@@ -121,47 +125,47 @@ full_shows p units limit others state run behind none =
     cc
 
 -- one that isn't is the first of them
-same_then : (p : ℕ) (came : Turn) (r : Ran Wholes) (s : Ran Processes) (state : Wholes) (processes : Processes) (run : Progress) (behind : List ℕ)
-    → is_full_turn came ≡ false → (SaysNoFull r behind → RanSame r s)
-    → SaysNoFull (event_then p came r state run) behind → RanSame (event_then p came r state run) (event_then p came s processes run)
-same_then p turn.Stepped r s state processes run behind fits rest none =
-    same_first p turn.Stepped r s (rest (behind_first p turn.Stepped r behind none))
-same_then p (turn.Wrote written) r s state processes run behind fits rest none =
-    same_first p (turn.Wrote written) r s (rest (behind_first p (turn.Wrote written) r behind none))
-same_then p (turn.Exited code) r s state processes run behind fits rest none =
-    same_first p (turn.Exited code) r s (rest (behind_first p (turn.Exited code) r behind none))
-same_then p (turn.Faulted kind at) r s state processes run behind fits rest none =
-    same_first p (turn.Faulted kind at) r s (rest (behind_first p (turn.Faulted kind at) r behind none))
-same_then p (turn.Full units limit) r s state processes run behind fits rest none = cc
+same_then : (extension : Bool) (p : ℕ) (came : Turn) (r : Ran Wholes) (s : Ran Processes) (state : Wholes) (processes : Processes) (run : Progress) (behind : List ℕ)
+    → is_full_turn came ≡ false → (SaysNoFull r behind → RanSame extension r s)
+    → SaysNoFull (event_then p came r state run) behind → RanSame extension (event_then p came r state run) (event_then p came s processes run)
+same_then extension p turn.Stepped r s state processes run behind fits rest none =
+    same_first extension p turn.Stepped r s (rest (behind_first p turn.Stepped r behind none))
+same_then extension p (turn.Wrote written) r s state processes run behind fits rest none =
+    same_first extension p (turn.Wrote written) r s (rest (behind_first p (turn.Wrote written) r behind none))
+same_then extension p (turn.Exited code) r s state processes run behind fits rest none =
+    same_first extension p (turn.Exited code) r s (rest (behind_first p (turn.Exited code) r behind none))
+same_then extension p (turn.Faulted kind at) r s state processes run behind fits rest none =
+    same_first extension p (turn.Faulted kind at) r s (rest (behind_first p (turn.Faulted kind at) r behind none))
+same_then extension p (turn.Full units limit) r s state processes run behind fits rest none = cc
 
 module _ (breaks : Breaks) (behind : List ℕ) where
   -- whose turn comes out so
   same_turn : (p : ℕ) (state : Wholes) (run : Progress) (others : Ran Wholes) (each : Processes → Ran Processes) → ComesOut state p
-      → (SaysNoFull others behind → RanSame others (each (after_turn state p).processes))
+      → (SaysNoFull others behind → RanSame state.extension others (each (after_turn state p).processes))
       → SaysNoFull (event_then p (turn_of state p) others (after_turn state p) run) behind
-      → RanSame (event_then p (turn_of state p) others (after_turn state p) run) (event_then p (step_among state.processes p) (each (after_step_of state.processes p)) (after_step_of state.processes p) run)
+      → RanSame state.extension (event_then p (turn_of state p) others (after_turn state p) run) (event_then p (step_among state.extension state.processes p) (each (after_step_of state.extension state.processes p)) (after_step_of state.extension state.processes p) run)
   same_turn p state run others each (IsFullTurn units limit is) rest none =
       absurd (full_shows p units limit others (after_turn state p) run behind (subst (λ t. SaysNoFull (event_then p t others (after_turn state p) run) behind) is none))
   same_turn p state run others each (IsStep is fits after) rest none =
       let there = subst (λ t. SaysNoFull (event_then p t others (after_turn state p) run) behind) is none in
-      subst (λ t. RanSame (event_then p t others (after_turn state p) run) (event_then p (step_among state.processes p) (each (after_step_of state.processes p)) (after_step_of state.processes p) run)) (sym is)
-      (same_then p (step_among state.processes p) others (each (after_step_of state.processes p)) (after_turn state p) (after_step_of state.processes p) run behind fits
-      (λ quiet. subst (λ ps. RanSame others (each ps)) after (rest quiet)) there)
+      subst (λ t. RanSame state.extension (event_then p t others (after_turn state p) run) (event_then p (step_among state.extension state.processes p) (each (after_step_of state.extension state.processes p)) (after_step_of state.extension state.processes p) run)) (sym is)
+      (same_then state.extension p (step_among state.extension state.processes p) others (each (after_step_of state.extension state.processes p)) (after_turn state p) (after_step_of state.extension state.processes p) run behind fits
+      (λ quiet. subst (λ ps. RanSame state.extension others (each ps)) after (rest quiet)) there)
 
   same_next : (next : Option ℕ) (state : Wholes) (run : Progress) (r : ℕ → Ran Wholes) (s : ℕ → Processes → Ran Processes)
-      → ((p : ℕ) → SaysNoFull (r p) behind → RanSame (r p) (s p (after_turn state p).processes))
+      → ((p : ℕ) → SaysNoFull (r p) behind → RanSame state.extension (r p) (s p (after_turn state p).processes))
       → SaysNoFull (turns_by (turn_of state) (after_turn state) next r state run) behind
-      → RanSame (turns_by (turn_of state) (after_turn state) next r state run) (turns_by (step_among state.processes) (after_step_of state.processes) next (λ p. s p (after_step_of state.processes p)) state.processes run)
+      → RanSame state.extension (turns_by (turn_of state) (after_turn state) next r state run) (turns_by (step_among state.extension state.processes) (after_step_of state.extension state.processes) next (λ p. s p (after_step_of state.extension state.processes p)) state.processes run)
   same_next None state run r s rest none = same_stopped (rest_of run.order) state run
   same_next (Some p) state run r s rest none = same_turn p state run (r p) (s p) (comes_out state p) (rest p) none
 
-  same_unless : (broken : Option Stop) (state : Wholes) (run : Progress) (r : Ran Wholes) (s : Ran Processes) → (SaysNoFull r behind → RanSame r s)
-      → SaysNoFull (unless_broken broken r state run) behind → RanSame (unless_broken broken r state run) (unless_broken broken s state.processes run)
+  same_unless : (broken : Option Stop) (state : Wholes) (run : Progress) (r : Ran Wholes) (s : Ran Processes) → (SaysNoFull r behind → RanSame state.extension r s)
+      → SaysNoFull (unless_broken broken r state run) behind → RanSame state.extension (unless_broken broken r state run) (unless_broken broken s state.processes run)
   same_unless None state run r s rest none = rest none
   same_unless (Some why) state run r s rest none = same_stopped why state run
 
   pub same_ran : (left : ℕ) (state : Wholes) (run : Progress) → SaysNoFull (ran breaks left state run) behind
-      → RanSame (ran breaks left state run) (ran_by (unbounded_turns breaks) left state.processes run)
+      → RanSame state.extension (ran breaks left state run) (ran_by (unbounded_turns state.extension breaks) left state.processes run)
   same_ran zero state run none =
       let why = option_map_or (λ p. stop.Limit) (next_of state run.order) (rest_of run.order) in
       same_unless (last_break breaks state run) state run (stopped why state run) (stopped why state.processes run) (λ quiet. same_stopped why state run) none
@@ -169,16 +173,17 @@ module _ (breaks : Breaks) (behind : List ℕ) where
       let next = next_of state run.order in
       same_unless (last_break breaks state run) state run
       (turns_by (turn_of state) (after_turn state) next (λ p. ran breaks left (after_turn state p) (run_after p run)) state run)
-      (turns_by (step_among state.processes) (after_step_of state.processes) next (λ p. ran_by (unbounded_turns breaks) left (after_step_of state.processes p) (run_after p run)) state.processes run)
-      (same_next next state run (λ p. ran breaks left (after_turn state p) (run_after p run)) (λ p ps. ran_by (unbounded_turns breaks) left ps (run_after p run))
-      (λ p quiet. same_ran left (after_turn state p) (run_after p run) quiet))
+      (turns_by (step_among state.extension state.processes) (after_step_of state.extension state.processes) next (λ p. ran_by (unbounded_turns state.extension breaks) left (after_step_of state.extension state.processes p) (run_after p run)) state.processes run)
+      (same_next next state run (λ p. ran breaks left (after_turn state p) (run_after p run)) (λ p ps. ran_by (unbounded_turns state.extension breaks) left ps (run_after p run))
+      (λ p quiet. subst (λ x. RanSame x (ran breaks left (after_turn state p) (run_after p run)) (ran_by (unbounded_turns x breaks) left (after_turn state p).processes (run_after p run)))
+      (after_extension state p) (same_ran left (after_turn state p) (run_after p run) quiet)))
       none
 
 -- What a command comes to.
 
 -- the unbounded machine that a state stands for, which has these lines of counts to print
 abbrev pub unbounded_of : List (List ℕ) → State → Unbounded
-unbounded_of counts state = record { registry = registry_of state; told = counts }
+unbounded_of counts state = record { registry = registry_of state; extension = state.wholes.extension; told = counts }
 
 pub record PerformedSame (counts : List (List ℕ)) (x : Performed State) (y : Performed Unbounded) : Type 0 where
   pub text : x.text ≡ y.text
@@ -188,8 +193,8 @@ pub record PerformedSame (counts : List (List ℕ)) (x : Performed State) (y : P
 abbrev ShowsNoFull : Performed State → List ℕ → Type 0
 ShowsNoFull x behind = has_full_line (x.text ++ behind) ≡ false
 
-same_text : (r : Ran Wholes) (s : Ran Processes) → RanSame r s → ran_text r ≡ ran_text s
-same_text r s same =
+same_text : (extension : Bool) (r : Ran Wholes) (s : Ran Processes) → RanSame extension r s → ran_text r ≡ ran_text s
+same_text extension r s same =
     ap (λ (es : List (ℕ × Turn)). flat_map (λ event. turn_text event.0 event.1) es ++ stop_text r.taken r.stop) same.events
     ∙ ap (λ n. flat_map (λ event. turn_text event.0 event.1) s.events ++ stop_text n r.stop) same.taken
     ∙ ap (λ x. flat_map (λ event. turn_text event.0 event.1) s.events ++ stop_text s.taken x) same.stop_is
@@ -239,13 +244,14 @@ module _ (counts : List (List ℕ)) (behind : List ℕ) where
   same_takes run state none =
       let same = same_ran state.breakpoints behind (run.turns - run.taken) state.wholes run none in
       record {
-        text = same_text _ _ same;
+        text = same_text _ _ _ same;
         after = λ i. record {
           registry = record {
             processes = same.after i;
             checkpoints = state.checkpoints;
             breakpoints = state.breakpoints;
           };
+          extension = same.extension_is i;
           told = counts;
         };
         wants = refl;
@@ -353,7 +359,7 @@ module _ (counts : List (List ℕ)) (behind : List ℕ) (modes : Modes) (file : 
   same_case _ (ByDump p address count) none =
       same_prints counts behind address count (λ memory. dump_text memory address count) (get state.wholes.processes p) state
   same_case _ (ByDisasm p address words) none =
-      same_prints counts behind address (WORD_BYTES * words) (λ memory. disasm_text memory address words) (get state.wholes.processes p) state
+      same_prints counts behind address (WORD_BYTES * words) (λ memory. disasm_text modes.extension memory address words) (get state.wholes.processes p) state
   same_case _ (ByChange c here there is) none = same_changed c here there is none
 
 pub same_performed : (counts : List (List ℕ)) (behind : List ℕ) (modes : Modes) (file : List ℕ) (c : Command) (state : State)
@@ -380,10 +386,11 @@ unfolding dump_from
 dump_lines zero memory address count = no_lines
 dump_lines (suc rows) memory address count = lines_both _ _ (ends_dump address _ true) (dump_lines rows memory _ _)
 
-disasm_lines : (memory : Contents) (address words : ℕ) → AreWholeLines (disasm_text memory address words)
+disasm_lines : (extension : Bool) (memory : Contents) (address words : ℕ) → AreWholeLines (disasm_text extension memory address words)
 unfolding disasm_text
-disasm_lines memory address zero = no_lines
-disasm_lines memory address (suc words) = lines_both _ _ (ends_disasm address _ true) (disasm_lines memory (address + WORD_BYTES) words)
+disasm_lines extension memory address zero = no_lines
+disasm_lines extension memory address (suc words) =
+    lines_both _ _ (ends_disasm_by (table_of extension).has address _ true) (disasm_lines extension memory (address + WORD_BYTES) words)
 
 list_lines : (registry : Registry) → AreWholeLines (list_text registry)
 unfolding list_head process_text checkpoint_text
@@ -445,7 +452,7 @@ performed_lines modes file command state = by_case command (goes_by rules rules 
     by_case _ (ByDump p address count) =
         prints_lines address count (λ memory. dump_text memory address count) (λ memory. dump_lines _ memory address count) (get state.wholes.processes p) state
     by_case _ (ByDisasm p address words) =
-        prints_lines address (WORD_BYTES * words) (λ memory. disasm_text memory address words) (λ memory. disasm_lines memory address words)
+        prints_lines address (WORD_BYTES * words) (λ memory. disasm_text modes.extension memory address words) (λ memory. disasm_lines modes.extension memory address words)
         (get state.wholes.processes p) state
     by_case _ (ByChange c here there counts) =
         subst (λ x. AreWholeLines x.text) (sym (here state)) (answer_lines (change_by (change_row file c (registry_of state)) state).answer)

@@ -7,4 +7,6 @@ pub struct Modes {
     pub frames: u32,
     /// How many turns a process takes before the next one does: 1 or more.
     pub quantum: u32,
+    /// Whether there is extension M: multiplication and division.
+    pub extension: bool,
 }

@@ -2,8 +2,8 @@ ghost use Rattle.std.specs.Prelude.{◌≡◌, ◌==◌, ◌+◌, ◌≤◌, ◌
 ghost use Rattle.script_text.specs.Given.{IsGiven, asks};
 ghost use Rattle.report_text.specs.Answers.{IsCheckpointName};
 ghost use Rattle.sizes.specs.declared.TheConstants.{ADDRESS_END, LAST_SPACE, MOST_FRAMES, PAGE_BYTES};
-ghost use Rattle.command_core.specs.State.{fresh, registry_of};
-ghost use Rattle.command_core.specs.Sessions.{AreSettledCounts, KeepsRest, fresh_session};
+ghost use Rattle.command_core.specs.State.{fresh, registry_of, State, extended};
+ghost use Rattle.command_core.specs.Sessions.{AreSettledCounts, KeepsRest, fresh_session, extended_session};
 ghost use Rattle.command_core.specs.Giving.{GivesChange, WantKeeps};
 ghost use Rattle.command_core.specs.Rows.{still_row};
 ghost use Rattle.command_core.specs.Copies.{fork_row};
@@ -125,15 +125,15 @@ fn view_of(kept: &Kept, pages: u32) -> CheckpointView<'_>
 }
 
 impl Session {
-    /// A session without a process, of 1 to 65,536 frames, whose turns have this quantum: 1 or more.
+    /// A session without a process, of 1 to 65,536 frames, whose turns have this quantum: 1 or more; and without extension M.
     pub fn new(alloc: Global, frames: u32, quantum: u32) -> Result<Session, AllocError>
         requires some { 0 < frames }
         requires few { frames ≤ MOST_FRAMES }
         requires quantum { 1 ≤ quantum }
-        ensures session { IfOk result (λ session. session
-            ≡ fresh_session (record { frames = frames; quantum = quantum }) session.free_blocks) }
+        ensures session { IfOk result (λ session. session ≡ fresh_session
+            (record { frames = frames; quantum = quantum; extension = false }) session.free_blocks) }
         ensures stands { IfOk result (λ session. SessionStandsFor session
-            (fresh (record { frames = frames; quantum = quantum }))) }
+            (fresh (record { frames = frames; quantum = quantum; extension = false }))) }
     {
         Ok(Session {
             alloc,
@@ -141,8 +141,30 @@ impl Session {
             checkpoints: Checkpoints::new(alloc),
             breakpoints: Breakpoints::new(alloc),
             numbers: FreeNumbers::new(alloc)?,
-            modes: Modes { frames, quantum },
+            modes: Modes {
+                frames,
+                quantum,
+                extension: false,
+            },
         })
+    }
+
+    /// Has extension M (multiplication and division) from now on, or has it not: turns and printed instructions go by it. Nothing else
+    /// changes. Takes no memory.
+    pub fn set_extension(&mut self, on: bool)
+        ensures set { self.new ≡ extended_session on self.old }
+        ensures stands { (state : State) → SessionStandsFor self.old state
+            → SessionStandsFor self.new (extended on state) }
+    {
+        self.machine.set_extension(on);
+        self.modes.extension = on;
+    }
+
+    /// Whether there is extension M.
+    pub fn has_extension(&self) -> bool
+        ensures { result ≡ self.now.modes.extension }
+    {
+        self.modes.extension
     }
 
     /// Makes a process of a file, under the next number: `Loaded`, or why not. `Full` exactly where the file is taken, a number is

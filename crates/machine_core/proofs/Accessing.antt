@@ -12,7 +12,8 @@ use Rattle.ovl_io.specs.declared.process_state.ProcessState.{ProcessState}
 use Rattle.ovl_io.specs.declared.process_state.ProcessState.TheVariants as state
 use Rattle.rv_execute.specs.Calls.{Call, Fetch, Load, Store, Performs, fetch_at, full_of, load_at, store_at}
 use Rattle.rv_execute.specs.Registers.{Registers}
-use Rattle.rv_execute.specs.Execution.{Execution, Executes, execution, full_in, outcome_by}
+use Rattle.rv_execute.specs.Execution.{Execution, Executes, execution_by, full_in, outcome_by}
+use Rattle.rv_mul.specs.Tables.{table_of}
 use Rattle.rv_execute.specs.declared.memory.Refused.{Refused}
 use Rattle.rv_execute.specs.declared.memory.Refused.TheVariants as refused
 use Rattle.rv_execute.specs.declared.outcome.Outcome.{Outcome}
@@ -127,9 +128,9 @@ performed (Store address bytes ∷ calls) old new full (answer, stored, is, last
 
 -- One execution.
 
-pub record IsExecuted (p : ℕ) (old new : State) (t u : BareTranslations) (before after : declared.Process) (o : Outcome) : Type 0 where
-  pub outcome_is : o ≡ outcome_of p (guest_seen p old t before)
-  pub after_is : AreLikeGuests (guest_seen p new u after) (executed p (guest_seen p old t before))
+pub record IsExecuted (extension : Bool) (p : ℕ) (old new : State) (t u : BareTranslations) (before after : declared.Process) (o : Outcome) : Type 0 where
+  pub outcome_is : o ≡ outcome_of p (guest_seen extension p old t before)
+  pub after_is : AreLikeGuests (guest_seen extension p new u after) (executed p (guest_seen extension p old t before))
   pub beside : IsBeside p old new
 
 -- what an outcome that isn't for want of units says
@@ -168,14 +169,15 @@ full_by e old old_memory regs memory (outcome.Full n l) needed limit is (steps, 
       memory_is = m;
     }
 
-made : (r s : Registers) (t u : ProcessState) (m n : Memory) (c d : Option Whole) (k l : Ledger) (f g : ℕ) (x y : BareTranslations)
+made : (r s : Registers) (t u : ProcessState) (m n : Memory) (c d : Option Whole) (k l : Ledger) (f g : ℕ) (extension : Bool) (x y : BareTranslations)
     → r ≡ s → t ≡ u → m ≡ n → c ≡ d → AreAlike k l → f ≡ g → x ≡ y
-    → AreLikeGuests (record { process = record { registers = r; state = t; memory = m; kept = c }; ledger = k; frames = f; translations = x })
-    (record { process = record { registers = s; state = u; memory = n; kept = d }; ledger = l; frames = g; translations = y })
-made r s t u m n c d k l f g x y rs tu mn cd kl fg xy = record {
+    → AreLikeGuests (record { process = record { registers = r; state = t; memory = m; kept = c }; ledger = k; frames = f; extension = extension; translations = x })
+    (record { process = record { registers = s; state = u; memory = n; kept = d }; ledger = l; frames = g; extension = extension; translations = y })
+made r s t u m n c d k l f g extension x y rs tu mn cd kl fg xy = record {
   process = λ i. record { registers = rs i; state = tu i; memory = mn i; kept = cd i };
   ledger = kl;
   frames = fg;
+  extension = refl;
   translations = xy;
 }
 
@@ -187,11 +189,11 @@ marked : (mark : Bool) (whole : Whole) → is_some (cond mark (Some whole) None)
 marked true whole = refl
 marked false whole = refl
 
-module _ (p : ℕ) (old new : State) (t u : BareTranslations) (process : declared.Process) (regs : Registers) (o : Outcome)
-    (done : Executes (execution process.regs (memory_of old p)) process.regs (memory_of old p) regs (memory_of new p) o) (runs : process.state ≡ state.Running)
-    (counts : u ≡ translations_executed p (guest_seen p old t process)) where
+module _ (extension : Bool) (p : ℕ) (old new : State) (t u : BareTranslations) (process : declared.Process) (regs : Registers) (o : Outcome)
+    (done : Executes (execution_by (table_of extension) process.regs (memory_of old p)) process.regs (memory_of old p) regs (memory_of new p) o) (runs : process.state ≡ state.Running)
+    (counts : u ≡ translations_executed p (guest_seen extension p old t process)) where
   abbrev guest : Guest
-  guest = guest_seen p old t process
+  guest = guest_seen extension p old t process
 
   abbrev left : declared.Process
   left = record { regs = regs; state = state_left o process.state; saved = process.saved }
@@ -199,29 +201,29 @@ module _ (p : ℕ) (old new : State) (t u : BareTranslations) (process : declare
   speculates : is_speculating guest.process ≡ (space_in old p).speculating
   speculates = marked (space_in old p).speculating (kept_whole (base_of old p) (unwrap_or process.saved none_saved))
 
-  full_is : (store : Option (ℕ × ℕ)) → store_of guest.process ≡ store → is_full p guest ≡ exceeds store (units (ledger_stored p (space_in old p).speculating store (books old))) (limit_of old)
+  full_is : (store : Option (ℕ × ℕ)) → store_of extension guest.process ≡ store → is_full p guest ≡ exceeds store (units (ledger_stored p (space_in old p).speculating store (books old))) (limit_of old)
   unfolding is_full ledger_executed
   full_is store is =
       ap (λ (s : Option (ℕ × ℕ)). exceeds s (units (ledger_stored p (is_speculating guest.process) s (books old))) (limit_of old)) is
       ∙ ap (λ b. exceeds store (units (ledger_stored p b store (books old))) (limit_of old)) speculates
 
-  ledger_is : (store : Option (ℕ × ℕ)) → store_of guest.process ≡ store → ledger_executed p guest ≡ ledger_stored p (space_in old p).speculating store (books old)
+  ledger_is : (store : Option (ℕ × ℕ)) → store_of extension guest.process ≡ store → ledger_executed p guest ≡ ledger_stored p (space_in old p).speculating store (books old)
   unfolding ledger_executed
   ledger_is store is =
       ap (λ (s : Option (ℕ × ℕ)). ledger_stored p (is_speculating guest.process) s (books old)) is
       ∙ ap (λ b. ledger_stored p b store (books old)) speculates
 
-  enough : (store : Option (ℕ × ℕ)) → store_of guest.process ≡ store → is_full p guest ≡ false → full_in o ≡ None
+  enough : (store : Option (ℕ × ℕ)) → store_of extension guest.process ≡ store → is_full p guest ≡ false → full_in o ≡ None
       → AreAlike (books new) (ledger_stored p (space_in old p).speculating store (books old))
       → kept_in new p process.saved ≡ kept_in old p process.saved → new.frames ≡ old.frames → IsBeside p old new
-      → IsExecuted p old new t u process left o
+      → IsExecuted extension p old new t u process left o
   enough store is not_full none ledger kept frames beside =
-      let e = execution process.regs (memory_of old p) in
+      let e = execution_by (table_of extension) process.regs (memory_of old p) in
       let d = is_done e process.regs (memory_of old p) regs (memory_of new p) o none done in
       record {
         outcome_is = d.outcome_is ∙ sym (ap (λ b. cond b (outcome.Full (units_needed p guest) (limit_of old)) (outcome_by e.upshot)) not_full);
-        after_is = subst (λ b. AreLikeGuests (guest_seen p new u left) (cond b (guest_refused p guest) (guest_executed p guest))) (sym not_full)
-            (made regs e.registers (state_left o process.state) (state_executed e.upshot) (memory_of new p) e.memory (kept_in new p process.saved) (kept_in old p process.saved) (books new) (ledger_executed p guest) _ _ u _
+        after_is = subst (λ b. AreLikeGuests (guest_seen extension p new u left) (cond b (guest_refused p guest) (guest_executed p guest))) (sym not_full)
+            (made regs e.registers (state_left o process.state) (state_executed e.upshot) (memory_of new p) e.memory (kept_in new p process.saved) (kept_in old p process.saved) (books new) (ledger_executed p guest) _ _ extension u _
             d.registers (ap (state_left o) runs ∙ d.state_is) d.memory_is kept (subst (AreAlike (books new)) (sym (ledger_is store is)) ledger) frames counts);
         beside = beside;
       }
@@ -229,25 +231,25 @@ module _ (p : ℕ) (old new : State) (t u : BareTranslations) (process : declare
   same_beside : new ≡ old → IsBeside p old new
   same_beside same = subst (IsBeside p old) (sym same) (record { spaces = λ q other. refl; there = λ q. refl; awaiting = refl; mark = refl })
 
-  by_store : (store : Option (ℕ × ℕ)) → store_of guest.process ≡ store → Came p old new store (full_in o) → IsExecuted p old new t u process left o
+  by_store : (store : Option (ℕ × ℕ)) → store_of extension guest.process ≡ store → Came p old new store (full_in o) → IsExecuted extension p old new t u process left o
   by_store None is (none, same) =
       enough None is (full_is None is) none (alike_by (books new) (books old) (ap books same)) (ap (λ (s : State). kept_in s p process.saved) same) (ap (λ (s : State). s.frames) same) (same_beside same)
   by_store (Some store) is came = by_test (nat_lt (limit_of old) (units (stored_books old p store.0 store.1))) refl came
     where
-      by_test : (b : Bool) → nat_lt (limit_of old) (units (stored_books old p store.0 store.1)) ≡ b → CameBy p old new store b (full_in o) → IsExecuted p old new t u process left o
+      by_test : (b : Bool) → nat_lt (limit_of old) (units (stored_books old p store.0 store.1)) ≡ b → CameBy p old new store b (full_in o) → IsExecuted extension p old new t u process left o
       by_test true over (full, same) =
-          let f = full_by (execution process.regs (memory_of old p)) process.regs (memory_of old p) regs (memory_of new p) o _ _ full done in
+          let f = full_by (execution_by (table_of extension) process.regs (memory_of old p)) process.regs (memory_of old p) regs (memory_of new p) o _ _ full done in
           let test = full_is (Some store) is ∙ over in
           record {
             outcome_is = f.outcome_is ∙ ap (λ l. outcome.Full (units l) (limit_of old)) (sym (ledger_is (Some store) is))
-                ∙ sym (ap (λ b. cond b (outcome.Full (units_needed p guest) (limit_of old)) (outcome_by (execution_of guest.process).upshot)) test);
-            after_is = subst (λ b. AreLikeGuests (guest_seen p new u left) (cond b (guest_refused p guest) (guest_executed p guest))) (sym test)
-                (made regs process.regs (state_left o process.state) process.state (memory_of new p) (memory_of old p) (kept_in new p process.saved) (kept_in old p process.saved) (books new) (books old) _ _ u _
+                ∙ sym (ap (λ b. cond b (outcome.Full (units_needed p guest) (limit_of old)) (outcome_by (execution_of extension guest.process).upshot)) test);
+            after_is = subst (λ b. AreLikeGuests (guest_seen extension p new u left) (cond b (guest_refused p guest) (guest_executed p guest))) (sym test)
+                (made regs process.regs (state_left o process.state) process.state (memory_of new p) (memory_of old p) (kept_in new p process.saved) (kept_in old p process.saved) (books new) (books old) _ _ extension u _
                 f.registers (ap (state_left o) runs ∙ f.state_is ∙ sym runs) f.memory_is (ap (λ (s : State). kept_in s p process.saved) same) (alike_by (books new) (books old) (ap books same)) (ap (λ (s : State). s.frames) same) counts);
             beside = same_beside same;
           }
       by_test false under (none, has) = enough (Some store) is (full_is (Some store) is ∙ under) none has.ledger (has.kept process.saved) has.frames has.beside
 
-  pub executes : Came p old new (store_made (memory_of old p) (execution process.regs (memory_of old p)).calls) (full_in o) → IsExecuted p old new t u process left o
+  pub executes : Came p old new (store_made (memory_of old p) (execution_by (table_of extension) process.regs (memory_of old p)).calls) (full_in o) → IsExecuted extension p old new t u process left o
   unfolding store_of
   executes came = by_store _ refl came

@@ -9,13 +9,14 @@ use Rattle.overlay_bits.specs.Lines.{has_line, with_line}
 use Rattle.overlay_bits.specs.Laws.{has_with}
 use Rattle.ledger.specs.AloneLaws.{are}
 use Rattle.byteorder.specs.Endian.{little_number}
-use Rattle.decoded_lines.specs.Decoded.{IsOfWord, line_word}
+use Rattle.decoded_lines.specs.Decoded.{IsOfWordBy, line_word}
 use Rattle.decoded_lines.specs.declared.TheConstants.{KEPT_LINES, LINE_WORDS}
 use Rattle.ovl_io.specs.Memory.{Memory, Page, bytes_at, with_byte, with_bytes, with_page_byte}
 use Rattle.ovl_io.specs.MemoryLaws.{all_allowed}
 use Rattle.ovl_io.specs.PageBytes.{page_allows}
 use Rattle.ovl_io.specs.Permissions.{executable, permits}
-use Rattle.rv_decode.specs.Meaning.{meaning}
+use Rattle.rv_decode.specs.Meaning.{meaning_by}
+use Rattle.rv_mul.specs.Tables.{table_of}
 use Rattle.rv_decode.specs.declared.instruction.Instr.{Instr}
 use Rattle.rv_execute.specs.Calls.{fetch_at}
 use Rattle.overlay_memory.specs.Code.{IsCodeLine}
@@ -53,12 +54,12 @@ code_moved view space a b line same code =
     }
 
 -- An address of it may be fetched, and its word stands decoded there.
-module _ (lines : List (List ℕ)) (view : View) (start pc at : ℕ) (held : IsLineHeld lines view.memory.now view.space start)
+module _ (extension : Bool) (lines : List (List ℕ)) (view : View) (start pc at : ℕ) (held : IsLineHeld lines view.memory.now view.space start)
     (here : pc ≡ start + 4 * at) (inside : at < LINE_WORDS) where
   pub page_is : pc / PAGE_BYTES ≡ start / PAGE_BYTES
   page_is = let whole = held.whole in omega (arith, here, inside, whole)
 
-  pub word_is : (word : Option Instr) → IsOfWord word (line_word (get_or lines (start / LINE_BYTES % KEPT_LINES) []) at) → IsWordAt view pc word
+  pub word_is : (word : Option Instr) → IsOfWordBy (table_of extension).has word (line_word (get_or lines (start / LINE_BYTES % KEPT_LINES) []) at) → IsWordAt extension view pc word
   word_is word is =
       let whole = held.whole in
       let low = held.low in
@@ -70,7 +71,7 @@ module _ (lines : List (List ℕ)) (view : View) (start pc at : ℕ) (held : IsL
             (ap (page_allows (memory_of (spaces_lent view) view.space) executable) page_is ∙ held.code.may) (omega arith) (omega (arith, whole, here));
         front = subst (λ n. IsFront view.space n (lists_lent view)) (sym page_is) held.code.front;
         means = is.means
-            ∙ ap meaning
+            ∙ ap (meaning_by (table_of extension).has)
             (ap (λ l. line_word l at) held.code.bytes
             ∙ ap (little_number 4)
             (some_bytes (memory_of (spaces_lent view) view.space) (LINE_BYTES * (start / LINE_BYTES)) (4 * at) 4 LINE_BYTES (omega (arith, inside))

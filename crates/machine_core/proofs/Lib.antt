@@ -1,3 +1,4 @@
+pub mod Constants
 pub mod Requests
 pub mod Bytes
 pub mod Holding

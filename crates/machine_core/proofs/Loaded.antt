@@ -33,7 +33,7 @@ space_by : (x y : State) (q : ℕ) → get x.spaces q ≡ get y.spaces q → spa
 unfolding space_in
 space_by x y q same = ap (λ (o : Option SpaceState). unwrap_or o bare_space) same
 
-module _ (file : List ℕ) (p : ℕ) (old new : Machine) (lists : lists_of new ≡ lists_of old) (has : IsSpaceOf file p (spaces_of old) (spaces_of new))
+module _ (file : List ℕ) (p : ℕ) (old new : Machine) (extension : new.extension ≡ old.extension) (lists : lists_of new ≡ lists_of old) (has : IsSpaceOf file p (spaces_of old) (spaces_of new))
     (processes : new.processes ≡ insert old.processes p (shown_process (loaded_process file))) where
   whole_is : whole_in (spaces_of new) p (shown_process (loaded_process file)) ≡ loaded_process file
   whole_is =
@@ -56,7 +56,7 @@ module _ (file : List ℕ) (p : ℕ) (old new : Machine) (lists : lists_of new �
 
   pub loaded : IsLoaded p file old new
   loaded = record {
-    like = record { processes = all_are; ledger = alike_altered _ _ has.ledger; frames = has.frames; translations = lists };
+    like = record { processes = all_are; ledger = alike_altered _ _ has.ledger; frames = has.frames; extension = extension; translations = lists };
     processes = processes;
     there = has.there;
     none_awaits = has.none_awaits;

@@ -30,7 +30,7 @@ use Rattle.ascending_numbers.specs.Rising.{Rises, found_in, none_below, rises, s
 
 -- a process that is there, in its place
 pub guest_is : (machine : Machine) (p : ℕ) (process : declared.Process) → get machine.processes p ≡ Some process
-    → guest_at (wholes machine) p ≡ Some (guest_in p machine.memory process)
+    → guest_at (wholes machine) p ≡ Some (guest_in machine.extension p machine.memory process)
 guest_is machine p process there =
     ap (option_map (guest_of (wholes machine))) (processes_at machine p ∙ ap (option_map (whole_in (spaces_of machine) p)) there)
 
@@ -77,10 +77,10 @@ same_beside p old new same = subst (λ s. IsBeside p s new) same (record { space
 
 -- A process was changed with its space, but for what is saved of it.
 module _ (f : Guest → Guest) (like : (g h : Guest) → AreLikeGuests g h → AreLikeGuests (f g) (f h)) (p : ℕ) (old : Machine) (memory : TranslatedView) (process next : declared.Process) (there : get old.processes p ≡ Some process)
-    (done : AreLikeGuests (guest_in p memory next) (f (guest_in p old.memory process)))
+    (done : AreLikeGuests (guest_in old.extension p memory next) (f (guest_in old.extension p old.memory process)))
     (saved : next.saved ≡ process.saved) (beside : IsBeside p (spaces_of old) (state_of memory)) where
   abbrev new : Machine
-  new = machine_of memory (insert old.processes p next)
+  new = machine_of old.extension memory (insert old.processes p next)
 
   here : get new.processes p ≡ Some next
   here = get_same old.processes p p next refl
@@ -93,7 +93,7 @@ module _ (f : Guest → Guest) (like : (g h : Guest) → AreLikeGuests g h → A
   others_seen q other (Some process) = ap Some (whole_by (spaces_of new) (spaces_of old) q (beside.spaces q other) process)
 
   abbrev guest : Guest
-  guest = f (guest_in p old.memory process)
+  guest = f (guest_in old.extension p old.memory process)
 
   processes_put : processes_of new ≡ insert (processes_of old) p guest.process
   processes_put = alike _ _ (λ q. processes_at new q ∙ by_key q p
@@ -103,7 +103,7 @@ module _ (f : Guest → Guest) (like : (g h : Guest) → AreLikeGuests g h → A
       ∙ sym (processes_at old q) ∙ sym (get_other (processes_of old) p q guest.process other)))
 
   wholes_put : AreLike (wholes new) (with_guest (wholes old) p guest)
-  wholes_put = record { processes = processes_put; ledger = done.ledger; frames = done.frames; translations = done.translations }
+  wholes_put = record { processes = processes_put; ledger = done.ledger; frames = done.frames; extension = done.extension; translations = done.translations }
 
   abbrev after : Wholes → Wholes
   after state = option_map_or (λ g. with_guest state p (f g)) (guest_at state p) state

@@ -1,12 +1,13 @@
-use Rattle.std.proofs.Common.{◌≡◌, ℕ, ◌/◌, List, Option, sym, ap, subst, ◌∙◌}
+use Rattle.std.proofs.Common.{◌≡◌, ℕ, ◌/◌, Bool, List, Option, sym, ap, subst, ◌∙◌}
 use Rattle.sizes.specs.declared.TheConstants.{PAGE_BYTES}
 use Rattle.ovl_io.specs.Memory.{Memory}
 use Rattle.ovl_io.specs.declared.process_state.ProcessState.TheVariants as state
-use Rattle.rv_execute.specs.CallLaws.{are_tried}
+use Rattle.rv_execute.specs.CallLaws.{are_tried_by}
 use Rattle.rv_execute.specs.Calls.{Call}
-use Rattle.rv_execute.specs.Execution.{Executes, execution, full_in}
+use Rattle.rv_execute.specs.Execution.{Executes, execution_by, full_in}
 use Rattle.rv_execute.specs.Registers.{Registers}
 use Rattle.rv_execute.specs.declared.outcome.Outcome.{Outcome}
+use Rattle.rv_mul.specs.Tables.{table_of}
 use Rattle.overlay_pages.specs.State.{memory_of}
 use Rattle.machine_core.specs.Access.{IsSameLoan, lists_lent, spaces_lent}
 use Rattle.machine_core.specs.Ahead.{ahead, guest_ahead}
@@ -21,11 +22,11 @@ use Rattle.machine_core.proofs.Ahead.{ahead_each, ahead_more, front_ahead}
 use Rattle.machine_core.proofs.Holding.{fetched_front}
 
 -- An execution whose fetch may be still to be counted, in the space that is lent.
-pub record IsExecutedOwing (k n : ℕ) (old new : View) (before after : declared.Process) (o : Outcome) : Type 0 where
+pub record IsExecutedOwing (extension : Bool) (k n : ℕ) (old new : View) (before after : declared.Process) (o : Outcome) : Type 0 where
   pub loan : new.memory.ghost_name ≡ old.memory.ghost_name
   pub space : new.space ≡ old.space
-  pub outcome_is : o ≡ outcome_of old.space (guest_ahead k (guest_lent old before))
-  pub after_is : AreLikeGuests (guest_ahead n (guest_lent new after)) (executed old.space (guest_ahead k (guest_lent old before)))
+  pub outcome_is : o ≡ outcome_of old.space (guest_ahead k (guest_lent extension old before))
+  pub after_is : AreLikeGuests (guest_ahead n (guest_lent extension new after)) (executed old.space (guest_ahead k (guest_lent extension old before)))
   pub beside : IsBeside old.space (spaces_lent old) (spaces_lent new)
 
 -- what calls came to, with what is owed
@@ -57,24 +58,24 @@ is_made k n pc calls old new full (Makes.FetchOwed rest is behind aligned front 
           ∙ ap (λ c. each_counted old.space m c (ahead k (lists_lent old))) (sym behind);
     }
 
-pub owing : (k n pc : ℕ) (old new : View) (process : declared.Process) (regs : Registers) (o : Outcome)
-    → Executes (execution process.regs (memory_of (spaces_lent old) old.space)) process.regs (memory_of (spaces_lent old) old.space) regs (memory_of (spaces_lent new) new.space) o
+pub owing : (extension : Bool) (k n pc : ℕ) (old new : View) (process : declared.Process) (regs : Registers) (o : Outcome)
+    → Executes (execution_by (table_of extension) process.regs (memory_of (spaces_lent old) old.space)) process.regs (memory_of (spaces_lent old) old.space) regs (memory_of (spaces_lent new) new.space) o
     → process.state ≡ state.Running
-    → Makes k n pc (execution process.regs (memory_of (spaces_lent old) old.space)).calls old (full_in o) new
-    → IsExecutedOwing k n old new process (record { regs = regs; state = state_left o process.state; saved = process.saved }) o
+    → Makes k n pc (execution_by (table_of extension) process.regs (memory_of (spaces_lent old) old.space)).calls old (full_in o) new
+    → IsExecutedOwing extension k n old new process (record { regs = regs; state = state_left o process.state; saved = process.saved }) o
 unfolding translations_executed
-owing k n pc old new process regs o done runs made =
+owing extension k n pc old new process regs o done runs made =
     let memory = memory_of (spaces_lent old) old.space in
-    let all = is_made k n pc (execution process.regs memory).calls old new (full_in o) made in
+    let all = is_made k n pc (execution_by (table_of extension) process.regs memory).calls old new (full_in o) made in
     let moved = ap (memory_of (spaces_lent new)) all.same.space in
-    let counts = all.lists ∙ tried_counted old.space memory (execution process.regs memory).calls (ahead k (lists_lent old)) (are_tried process.regs memory) in
-    let one = executes old.space (spaces_lent old) (spaces_lent new) (ahead k (lists_lent old)) (ahead n (lists_lent new)) process regs o
-    (subst (λ (m : Memory). Executes (execution process.regs memory) process.regs memory regs m o) moved done) runs counts all.came in
+    let counts = all.lists ∙ tried_counted old.space memory (execution_by (table_of extension) process.regs memory).calls (ahead k (lists_lent old)) (are_tried_by (table_of extension) process.regs memory) in
+    let one = executes extension old.space (spaces_lent old) (spaces_lent new) (ahead k (lists_lent old)) (ahead n (lists_lent new)) process regs o
+    (subst (λ (m : Memory). Executes (execution_by (table_of extension) process.regs memory) process.regs memory regs m o) moved done) runs counts all.came in
     record {
       loan = all.same.loan;
       space = all.same.space;
       outcome_is = one.outcome_is;
-      after_is = subst (λ p. AreLikeGuests (guest_seen p (spaces_lent new) (ahead n (lists_lent new)) (record { regs = regs; state = state_left o process.state; saved = process.saved }))
-          (executed old.space (guest_ahead k (guest_lent old process)))) (sym all.same.space) one.after_is;
+      after_is = subst (λ p. AreLikeGuests (guest_seen extension p (spaces_lent new) (ahead n (lists_lent new)) (record { regs = regs; state = state_left o process.state; saved = process.saved }))
+          (executed old.space (guest_ahead k (guest_lent extension old process)))) (sym all.same.space) one.after_is;
       beside = one.beside;
     }

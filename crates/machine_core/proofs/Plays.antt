@@ -6,15 +6,15 @@ use Rattle.machine_core.specs.declared.process.Process as declared
 use Rattle.machine_core.specs.Process.{Process, runs}
 use Rattle.machine_core.specs.Machine.{HaveSpaces, KeepsPlaces, Machine, StaysBut, Wholes, is_running, wholes}
 use Rattle.machine_core.specs.Turns.{Guest, after_turn, guest_after, guest_of, guest_refused, guest_stepped, is_full, with_guest}
-use Rattle.machine_core.specs.Laws.{runs_shown}
+use Rattle.machine_core.specs.Laws.{number_extension, runs_shown}
 use Rattle.machine_core.specs.Play.{AreOwnTurns, after_number, is_full_at, own_turns, run_over, turns_of}
 use Rattle.ascending_numbers.specs.Rising.{other_is, same_is}
 
 -- Turns of several processes.
 
-none_more : (p : ℕ) (o : Option Process) → o ≡ option_map (own_turns p 0) o
-none_more p None = refl
-none_more p (Some process) = refl
+none_more : (extension : Bool) (p : ℕ) (o : Option Process) → o ≡ option_map (own_turns extension p 0) o
+none_more extension p None = refl
+none_more extension p (Some process) = refl
 
 -- what a turn of a process that is there does to it: a step, or nothing where it is answered Full
 module _ (state : Wholes) (p : ℕ) (process : Process) (there : get state.processes p ≡ Some process) where
@@ -30,25 +30,25 @@ module _ (state : Wholes) (p : ℕ) (process : Process) (there : get state.proce
   full_is = ap (λ (o : Option Process). option_map_or (is_full p) (option_map (guest_of state) o) false) there
 
   own_by : (n : ℕ) (b : Bool) → is_full p guest ≡ b
-      → own_turns p n (guest_after p guest).process ≡ own_turns p (cond (not b) 1 0 + n) process
+      → own_turns state.extension p n (guest_after p guest).process ≡ own_turns state.extension p (cond (not b) 1 0 + n) process
   own_by n true full =
       let none : n ≡ 0 + n = omega arith in
-      ap (λ b. own_turns p n (cond b (guest_refused p guest) (guest_stepped p guest)).process) full
-      ∙ ap (λ k. own_turns p k process) none
+      ap (λ b. own_turns state.extension p n (cond b (guest_refused p guest) (guest_stepped p guest)).process) full
+      ∙ ap (λ k. own_turns state.extension p k process) none
   own_by n false enough =
       let one : suc n ≡ 1 + n = omega arith in
-      ap (λ b. own_turns p n (cond b (guest_refused p guest) (guest_stepped p guest)).process) enough
-      ∙ ap (λ k. own_turns p k process) one
+      ap (λ b. own_turns state.extension p n (cond b (guest_refused p guest) (guest_stepped p guest)).process) enough
+      ∙ ap (λ k. own_turns state.extension p k process) one
 
-  own_there : (n : ℕ) → option_map (own_turns p n) (get (after_turn state p).processes p)
-      ≡ option_map (own_turns p (cond (not (is_full_at state p)) 1 0 + n)) (get state.processes p)
+  own_there : (n : ℕ) → option_map (own_turns state.extension p n) (get (after_turn state p).processes p)
+      ≡ option_map (own_turns state.extension p (cond (not (is_full_at state p)) 1 0 + n)) (get state.processes p)
   own_there n =
-      ap (option_map (own_turns p n)) after_there ∙ ap Some (own_by n (is_full p guest) refl)
-      ∙ ap (λ b. Some (own_turns p (cond (not b) 1 0 + n) process)) (sym full_is)
-      ∙ sym (ap (option_map (own_turns p (cond (not (is_full_at state p)) 1 0 + n))) there)
+      ap (option_map (own_turns state.extension p n)) after_there ∙ ap Some (own_by n (is_full p guest) refl)
+      ∙ ap (λ b. Some (own_turns state.extension p (cond (not b) 1 0 + n) process)) (sym full_is)
+      ∙ sym (ap (option_map (own_turns state.extension p (cond (not (is_full_at state p)) 1 0 + n))) there)
 
 after_own : (state : Wholes) (p n : ℕ) (o : Option Process) → get state.processes p ≡ o → is_running state p ≡ true
-    → option_map (own_turns p n) (get (after_turn state p).processes p) ≡ option_map (own_turns p (cond (not (is_full_at state p)) 1 0 + n)) (get state.processes p)
+    → option_map (own_turns state.extension p n) (get (after_turn state p).processes p) ≡ option_map (own_turns state.extension p (cond (not (is_full_at state p)) 1 0 + n)) (get state.processes p)
 after_own state p n (Some process) there running = own_there state p process there n
 after_own state p n None absent running =
     absurd (let stopped = ap (λ (o : Option Process). option_map_or (λ (w : Process). runs w.state) o false) absent in cc)
@@ -62,32 +62,33 @@ after_others state q p other = by_found (get state.processes q)
 
 -- one turn more at the front
 one_turn : (state : Wholes) (q p n : ℕ) (b : Bool) → is_running state q ≡ b
-    → option_map (own_turns p n) (get (cond b (after_turn state q) state).processes p)
-    ≡ option_map (own_turns p (cond ((q == p) && (b && not (is_full_at state q))) 1 0 + n)) (get state.processes p)
+    → option_map (own_turns state.extension p n) (get (cond b (after_turn state q) state).processes p)
+    ≡ option_map (own_turns state.extension p (cond ((q == p) && (b && not (is_full_at state q))) 1 0 + n)) (get state.processes p)
 one_turn state q p n true running = by_key p q
     (λ same.
-    subst (λ k. option_map (own_turns p n) (get (after_turn state k).processes p) ≡ option_map (own_turns p (cond (not (is_full_at state k)) 1 0 + n)) (get state.processes p)) same
+    subst (λ k. option_map (own_turns state.extension p n) (get (after_turn state k).processes p) ≡ option_map (own_turns state.extension p (cond (not (is_full_at state k)) 1 0 + n)) (get state.processes p)) same
     (after_own state p n (get state.processes p) refl (ap (is_running state) same ∙ running))
-    ∙ ap (λ t. option_map (own_turns p (cond t 1 0 + n)) (get state.processes p)) (sym (ap (λ b. b && not (is_full_at state q)) (same_is q p (sym same)))))
+    ∙ ap (λ t. option_map (own_turns state.extension p (cond t 1 0 + n)) (get state.processes p)) (sym (ap (λ b. b && not (is_full_at state q)) (same_is q p (sym same)))))
     (λ other.
     let none : n ≡ cond ((q == p) && not (is_full_at state q)) 1 0 + n = zero_more (q == p) (not (is_full_at state q)) (other_is q p (λ e. other (sym e))) in
-    ap (option_map (own_turns p n)) (after_others state q p other) ∙ ap (λ k. option_map (own_turns p k) (get state.processes p)) none)
+    ap (option_map (own_turns state.extension p n)) (after_others state q p other) ∙ ap (λ k. option_map (own_turns state.extension p k) (get state.processes p)) none)
   where
     zero_more : (b c : Bool) → b ≡ false → n ≡ cond (b && c) 1 0 + n
     zero_more false c h = omega arith
     zero_more true c h = cc
 one_turn state q p n false stopped =
     let none : n ≡ cond ((q == p) && false) 1 0 + n = nothing (q == p) in
-    ap (λ k. option_map (own_turns p k) (get state.processes p)) none
+    ap (λ k. option_map (own_turns state.extension p k) (get state.processes p)) none
   where
     nothing : (b : Bool) → n ≡ cond (b && false) 1 0 + n
     nothing true = omega arith
     nothing false = omega arith
 
 pub each_own : (turns : List ℕ) (state : Wholes) → AreOwnTurns turns state (run_over turns state)
-each_own [] state = λ p. none_more p (get state.processes p)
+each_own [] state = λ p. none_more state.extension p (get state.processes p)
 each_own (q ∷ turns) state = λ p.
     each_own turns (after_number q state) p
+    ∙ ap (λ x. option_map (own_turns x p (turns_of p turns (after_number q state))) (get (after_number q state).processes p)) (number_extension q state)
     ∙ one_turn state q p (turns_of p turns (after_number q state)) (is_running state q) refl
 
 -- the run over what is left of a list

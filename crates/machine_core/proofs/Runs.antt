@@ -1,4 +1,4 @@
-use Rattle.std.proofs.Common.{◌≡◌, ℕ, ◌+◌, ◌-◌, ◌*◌, ◌/◌, ◌%◌, ◌^◌, ◌<◌, ◌≤◌, false, List, [], drop, get_or, length, take, Option, None, sym, ap, subst, ◌∙◌, refl, arith}
+use Rattle.std.proofs.Common.{◌≡◌, ℕ, ◌+◌, ◌-◌, ◌*◌, ◌/◌, ◌%◌, ◌^◌, ◌<◌, ◌≤◌, Bool, false, List, [], drop, get_or, length, take, Option, None, sym, ap, subst, ◌∙◌, refl, arith}
 use Rattle.std.proofs.lemmas.List.{drop-drop, get_or-drop, get_or-take, length-drop, take_all}
 use Rattle.std.specs.Borrow.{Bor}
 use Rattle.std.specs.Ordering.{nat_cmp}
@@ -7,7 +7,8 @@ use Rattle.sizes.specs.declared.TheConstants.{LINE_BYTES, PAGE_BYTES, PAGE_LINES
 use Rattle.breakpoints.specs.Breakpoints.{Addresses}
 use Rattle.overlay_bits.specs.Lines.{has_line}
 use Rattle.overlay_memory.specs.View.{TranslatedView}
-use Rattle.decoded_lines.specs.Decoded.{AreFrom, IsOfWord, line_word}
+use Rattle.decoded_lines.specs.Decoded.{AreFromBy, IsOfWordBy, line_word}
+use Rattle.rv_mul.specs.Tables.{table_of}
 use Rattle.decoded_lines.specs.declared.TheConstants.{KEPT_LINES, LINE_WORDS}
 use Rattle.ovl_io.specs.declared.process_state.ProcessState.TheVariants as state
 use Rattle.rv_decode.specs.declared.instruction.Instr.{Instr}
@@ -58,7 +59,7 @@ in_hand_over lines old new hand pc keeps page held line low has =
     keeps lines (PAGE_BYTES * hand.page + LINE_BYTES * line) (held line low has) (omega (arith, page, low))
 
 -- the line of the first address, and the place of the first word in it
-module _ (lines : List (List ℕ)) (view : View) (first k pc : ℕ) (held : IsLineHeld lines view.memory.now view.space (LINE_BYTES * (first / LINE_BYTES)))
+module _ (extension : Bool) (lines : List (List ℕ)) (view : View) (first k pc : ℕ) (held : IsLineHeld lines view.memory.now view.space (LINE_BYTES * (first / LINE_BYTES)))
     (inside : first / 4 % LINE_WORDS + k < LINE_WORDS) (here : pc ≡ (LINE_BYTES * (first / LINE_BYTES) + 4 * (first / 4 % LINE_WORDS + k)) % 2 ^ 64) where
   abbrev start : ℕ
   start = LINE_BYTES * (first / LINE_BYTES)
@@ -70,14 +71,14 @@ module _ (lines : List (List ℕ)) (view : View) (first k pc : ℕ) (held : IsLi
   pc_is = at_here start pc (from + k) held.whole held.low inside here
 
   -- the first of those that are left
-  pub word_in : (words : List (Option Instr)) (count : ℕ) → k < count → AreFrom words from (get_or lines (first / 4 / LINE_WORDS % KEPT_LINES) [])
-      → IsWordAt view pc (get_or (drop k (take count words)) 0 None)
+  pub word_in : (words : List (Option Instr)) (count : ℕ) → k < count → AreFromBy (table_of extension).has words from (get_or lines (first / 4 / LINE_WORDS % KEPT_LINES) [])
+      → IsWordAt extension view pc (get_or (drop k (take count words)) 0 None)
   word_in words count below are =
       let number : first / 4 / LINE_WORDS ≡ start / LINE_BYTES = omega arith in
       let one : k + 0 ≡ k = omega arith in
-      word_is lines view start pc (from + k) held pc_is inside (get_or (drop k (take count words)) 0 None)
-      (subst (λ n. IsOfWord (get_or (drop k (take count words)) 0 None) (line_word (get_or lines (n % KEPT_LINES) []) (from + k))) number
-      (subst (λ o. IsOfWord o (line_word (get_or lines (first / 4 / LINE_WORDS % KEPT_LINES) []) (from + k)))
+      word_is extension lines view start pc (from + k) held pc_is inside (get_or (drop k (take count words)) 0 None)
+      (subst (λ n. IsOfWordBy (table_of extension).has (get_or (drop k (take count words)) 0 None) (line_word (get_or lines (n % KEPT_LINES) []) (from + k))) number
+      (subst (λ o. IsOfWordBy (table_of extension).has o (line_word (get_or lines (first / 4 / LINE_WORDS % KEPT_LINES) []) (from + k)))
       (sym (get_or-drop k (take count words) 0 None ∙ ap (λ n. get_or (take count words) n None) one ∙ get_or-take count words k None below)) (are k inside)))
 
   -- executions don't stop at a word behind the first one
@@ -113,18 +114,18 @@ module _ (lines : List (List ℕ)) (old view : View) (hand left : Hand) (n pc ne
   }
 
 -- One more of them.
-module _ (stops : Addresses) (p : ℕ) (guest : Guest) (most k owed : ℕ) (old new : View) (before after : Process) (o : Outcome) (same : old.space ≡ p) (below : k < most)
-    (is : AreLikeExecutions (after_steps k (so_far k stops p (most - k) (guest_ahead (owed + k) (guest_lent old before)))) (executions stops p most guest))
-    (past : 0 < k → contains stops before.regs.pc ≡ false) (came : (n : ℕ) → o ≡ outcome_of old.space (guest_ahead n (guest_lent old before)))
-    (moved : (n : ℕ) → AreLikeGuests (guest_ahead (n + 1) (guest_lent new after)) (executed old.space (guest_ahead n (guest_lent old before)))) where
+module _ (extension : Bool) (stops : Addresses) (p : ℕ) (guest : Guest) (most k owed : ℕ) (old new : View) (before after : Process) (o : Outcome) (same : old.space ≡ p) (below : k < most)
+    (is : AreLikeExecutions (after_steps k (so_far k stops p (most - k) (guest_ahead (owed + k) (guest_lent extension old before)))) (executions stops p most guest))
+    (past : 0 < k → contains stops before.regs.pc ≡ false) (came : (n : ℕ) → o ≡ outcome_of old.space (guest_ahead n (guest_lent extension old before)))
+    (moved : (n : ℕ) → AreLikeGuests (guest_ahead (n + 1) (guest_lent extension new after)) (executed old.space (guest_ahead n (guest_lent extension old before)))) where
   abbrev all : Executions
   all = executions stops p most guest
 
   abbrev now : Guest
-  now = guest_ahead (owed + k) (guest_lent old before)
+  now = guest_ahead (owed + k) (guest_lent extension old before)
 
   abbrev next : Guest
-  next = guest_ahead (owed + (k + 1)) (guest_lent new after)
+  next = guest_ahead (owed + (k + 1)) (guest_lent extension new after)
 
   begins : AreLikeExecutions (after_steps k (executions stops p (most - k) now)) all
   begins = subst (λ e. AreLikeExecutions (after_steps k e) all) (on_so_far stops p k (most - k) now past) is
@@ -132,7 +133,7 @@ module _ (stops : Addresses) (p : ℕ) (guest : Guest) (most k owed : ℕ) (old 
   next_is : AreLikeGuests next (executed old.space now)
   next_is =
       let one : owed + k + 1 ≡ owed + (k + 1) = omega arith in
-      subst (λ n. AreLikeGuests (guest_ahead n (guest_lent new after)) (executed old.space now)) one (moved (owed + k))
+      subst (λ n. AreLikeGuests (guest_ahead n (guest_lent extension new after)) (executed old.space now)) one (moved (owed + k))
 
   next_of : AreLikeGuests next (executed p now)
   next_of = subst (λ q. AreLikeGuests next (executed q now)) same next_is
@@ -161,13 +162,13 @@ both_beside p old mid new one two = record {
 }
 
 -- Steps of a run so far, one behind the other: the lines are still in hand, and the words that are left follow.
-pub record AreRun (stops : Addresses) (lines : List (List ℕ)) (old now : View) (before process : Process) (hand left : Hand) (most pc : ℕ) (words rest : List (Option Instr)) (k : ℕ)
+pub record AreRun (extension : Bool) (stops : Addresses) (lines : List (List ℕ)) (old now : View) (before process : Process) (hand left : Hand) (most pc : ℕ) (words rest : List (Option Instr)) (k : ℕ)
     : Type 0 where
   pub loan : now.memory.ghost_name ≡ old.memory.ghost_name
   pub space : now.space ≡ old.space
   pub ready : IsReadyView now
-  pub all : AreLikeExecutions (after_steps k (so_far k stops old.space (most - k) (guest_ahead (hand.owed + k) (guest_lent now process))))
-      (executions stops old.space most (guest_ahead hand.owed (guest_lent old before)))
+  pub all : AreLikeExecutions (after_steps k (so_far k stops old.space (most - k) (guest_ahead (hand.owed + k) (guest_lent extension now process))))
+      (executions stops old.space most (guest_ahead hand.owed (guest_lent extension old before)))
   pub running : process.state ≡ state.Running
   pub saved : process.saved ≡ before.saved
   pub beside : IsBeside old.space (spaces_lent old) (spaces_lent now)
@@ -178,20 +179,20 @@ pub record AreRun (stops : Addresses) (lines : List (List ℕ)) (old now : View)
   pub rest_is : rest ≡ drop k words
 
 -- at its start no step was taken
-pub begun_run : (stops : Addresses) (lines : List (List ℕ)) (view : View) (process : Process) (hand : Hand) (most pc k : ℕ) (words : List (Option Instr)) → k ≡ 0
+pub begun_run : (extension : Bool) (stops : Addresses) (lines : List (List ℕ)) (view : View) (process : Process) (hand : Hand) (most pc k : ℕ) (words : List (Option Instr)) → k ≡ 0
     → pc ≡ process.regs.pc → process.state ≡ state.Running → IsReadyView view → IsReached lines view.memory.now view.space hand process.regs.pc
-    → AreRun stops lines view view process process hand hand most pc words words k
-begun_run stops lines view process hand most pc k words none is running ready taken =
+    → AreRun extension stops lines view view process process hand hand most pc words words k
+begun_run extension stops lines view process hand most pc k words none is running ready taken =
     let held = held_at lines view.memory.now view.space hand pc (subst (IsReached lines view.memory.now view.space hand) (sym is) taken) in
     let low = held.low in
     let aligned = taken.aligned in
     let owes : hand.owed ≡ hand.owed + 0 = omega arith in
-    let first : AreLikeExecutions (after_steps 0 (executions stops view.space (most - 0) (guest_ahead (hand.owed + 0) (guest_lent view process))))
-    (executions stops view.space most (guest_ahead hand.owed (guest_lent view process))) =
-    subst (λ n. AreLikeExecutions (after_steps 0 (executions stops view.space (most - 0) (guest_ahead n (guest_lent view process))))
-    (executions stops view.space most (guest_ahead hand.owed (guest_lent view process)))) owes
-    (from_first stops view.space most (guest_ahead hand.owed (guest_lent view process))) in
-    subst (AreRun stops lines view view process process hand hand most pc words words) (sym none)
+    let first : AreLikeExecutions (after_steps 0 (executions stops view.space (most - 0) (guest_ahead (hand.owed + 0) (guest_lent extension view process))))
+    (executions stops view.space most (guest_ahead hand.owed (guest_lent extension view process))) =
+    subst (λ n. AreLikeExecutions (after_steps 0 (executions stops view.space (most - 0) (guest_ahead n (guest_lent extension view process))))
+    (executions stops view.space most (guest_ahead hand.owed (guest_lent extension view process)))) owes
+    (from_first stops view.space most (guest_ahead hand.owed (guest_lent extension view process))) in
+    subst (AreRun extension stops lines view view process process hand hand most pc words words) (sym none)
     (record {
       loan = refl;
       space = refl;
@@ -211,8 +212,8 @@ begun_run stops lines view process hand most pc k words none is running ready ta
 pub rest_of : (rest : List (Option Instr)) → take (length rest - 1) (drop 1 rest) ≡ drop 1 rest
 rest_of rest = take_all (length rest - 1) (drop 1 rest) (let n = length-drop 1 rest in omega (arith, n))
 
-module _ (stops : Addresses) (lines : List (List ℕ)) (old mid : View) (before process : Process) (hand left : Hand) (most pc count : ℕ) (words rest : List (Option Instr))
-    (so : AreRun stops lines old mid before process hand left most pc words rest (count - length rest)) (few : count ≤ most) (within : length rest ≤ count) (some : 0 < length rest)
+module _ (extension : Bool) (stops : Addresses) (lines : List (List ℕ)) (old mid : View) (before process : Process) (hand left : Hand) (most pc count : ℕ) (words rest : List (Option Instr))
+    (so : AreRun extension stops lines old mid before process hand left most pc words rest (count - length rest)) (few : count ≤ most) (within : length rest ≤ count) (some : 0 < length rest)
     (inside : pc / 4 % LINE_WORDS + count ≤ LINE_WORDS) (aligned : pc % 4 ≡ 0) (past : GoesPast stops pc count) where
   abbrev done : ℕ
   done = count - length rest
@@ -221,46 +222,46 @@ module _ (stops : Addresses) (lines : List (List ℕ)) (old mid : View) (before 
   is_inside = omega (arith, within, some, inside)
 
   is_past : 0 < done → contains stops process.regs.pc ≡ false
-  is_past = goes_past lines mid pc done process.regs.pc so.line is_inside so.here stops count aligned past (omega (arith, within, some))
+  is_past = goes_past extension lines mid pc done process.regs.pc so.line is_inside so.here stops count aligned past (omega (arith, within, some))
 
   below : done < most
   below = omega (arith, within, some, few)
 
   -- the word of the next one
-  pub next_word : (all : List (Option Instr)) → words ≡ take count all → AreFrom all (pc / 4 % LINE_WORDS) (get_or lines (pc / 4 / LINE_WORDS % KEPT_LINES) [])
-      → IsWordAt mid process.regs.pc (get_or rest 0 None)
+  pub next_word : (all : List (Option Instr)) → words ≡ take count all → AreFromBy (table_of extension).has all (pc / 4 % LINE_WORDS) (get_or lines (pc / 4 / LINE_WORDS % KEPT_LINES) [])
+      → IsWordAt extension mid process.regs.pc (get_or rest 0 None)
   next_word all words_are are =
-      subst (λ r. IsWordAt mid process.regs.pc (get_or r 0 None)) (sym (so.rest_is ∙ ap (drop done) words_are))
-      (word_in lines mid pc done process.regs.pc so.line is_inside so.here all count (omega (arith, within, some)) are)
+      subst (λ r. IsWordAt extension mid process.regs.pc (get_or r 0 None)) (sym (so.rest_is ∙ ap (drop done) words_are))
+      (word_in extension lines mid pc done process.regs.pc so.line is_inside so.here all count (omega (arith, within, some)) are)
 
   pub page_now : pc / PAGE_BYTES ≡ process.regs.pc / PAGE_BYTES
-  page_now = page_here lines mid pc done process.regs.pc so.line is_inside so.here
+  page_now = page_here extension lines mid pc done process.regs.pc so.line is_inside so.here
 
   -- It was executed, and that came of it.
-  module _ (new : View) (after : Process) (o : Outcome) (came : (n : ℕ) → o ≡ outcome_of mid.space (guest_ahead n (guest_lent mid process)))
-      (moved : (n : ℕ) → AreLikeGuests (guest_ahead (n + 1) (guest_lent new after)) (executed mid.space (guest_ahead n (guest_lent mid process)))) where
+  module _ (new : View) (after : Process) (o : Outcome) (came : (n : ℕ) → o ≡ outcome_of mid.space (guest_ahead n (guest_lent extension mid process)))
+      (moved : (n : ℕ) → AreLikeGuests (guest_ahead (n + 1) (guest_lent extension new after)) (executed mid.space (guest_ahead n (guest_lent extension mid process)))) where
     -- what came ends the run
-    pub ends : Comes stops old.space most (guest_ahead hand.owed (guest_lent old before)) (done + steps_in o) o (guest_ahead (hand.owed + (done + 1)) (guest_lent new after))
+    pub ends : Comes stops old.space most (guest_ahead hand.owed (guest_lent extension old before)) (done + steps_in o) o (guest_ahead (hand.owed + (done + 1)) (guest_lent extension new after))
     ends =
-        came_by stops old.space (guest_ahead hand.owed (guest_lent old before)) most done hand.owed mid new process after o so.space below so.all is_past came moved
+        came_by extension stops old.space (guest_ahead hand.owed (guest_lent extension old before)) most done hand.owed mid new process after o so.space below so.all is_past came moved
 
     pub ends_running : o ≡ outcome.Stepped → after.state ≡ state.Running
     ends_running stepped =
-        runs_on stops old.space (guest_ahead hand.owed (guest_lent old before)) most done hand.owed mid new process after o so.space below so.all is_past came moved stepped so.running
+        runs_on extension stops old.space (guest_ahead hand.owed (guest_lent extension old before)) most done hand.owed mid new process after o so.space below so.all is_past came moved stepped so.running
 
     -- or the run goes on
     pub goes_on : o ≡ outcome.Stepped → new.memory.ghost_name ≡ mid.memory.ghost_name → new.space ≡ mid.space → IsReadyView new → after.saved ≡ process.saved
         → IsBeside mid.space (spaces_lent mid) (spaces_lent new) → Keeps On mid new process.regs.pc after.regs.pc → hand.page ≡ pc / PAGE_BYTES
-        → AreRun stops lines old new before after hand left most pc words (drop 1 rest) (count - length (drop 1 rest))
+        → AreRun extension stops lines old new before after hand left most pc words (drop 1 rest) (count - length (drop 1 rest))
     goes_on stepped loan space ready saved beside keeps page =
         let n = length-drop 1 rest in
         let one : done + 1 ≡ count - length (drop 1 rest) = omega (arith, n, within, some) in
-        subst (AreRun stops lines old new before after hand left most pc words (drop 1 rest)) one
+        subst (AreRun extension stops lines old new before after hand left most pc words (drop 1 rest)) one
         (record {
           loan = loan ∙ so.loan;
           space = space ∙ so.space;
           ready = ready;
-          all = one_so_far stops old.space (guest_ahead hand.owed (guest_lent old before)) most done hand.owed mid new process after o so.space below so.all is_past came moved stepped;
+          all = one_so_far extension stops old.space (guest_ahead hand.owed (guest_lent extension old before)) most done hand.owed mid new process after o so.space below so.all is_past came moved stepped;
           running = ends_running stepped;
           saved = saved ∙ so.saved;
           beside = both_beside old.space (spaces_lent old) (spaces_lent mid) (spaces_lent new) so.beside (subst (λ p. IsBeside p (spaces_lent mid) (spaces_lent new)) so.space beside);

@@ -208,9 +208,9 @@ module _ (p : ℕ) where
   runs_after_one guest running = by_test (is_full p guest)
     where
       by_test : (b : Bool) → runs (cond b (guest_refused p guest) (guest_executed p guest)).process.state
-          ≡ runs_on (cond b (outcome.Full (units_needed p guest) (unit_limit guest.frames)) (outcome_by (execution_of guest.process).upshot))
+          ≡ runs_on (cond b (outcome.Full (units_needed p guest) (unit_limit guest.frames)) (outcome_by (execution_of guest.extension guest.process).upshot))
       by_test true = ap runs running
-      by_test false = runs_by (execution_of guest.process).upshot
+      by_test false = runs_by (execution_of guest.extension guest.process).upshot
 
   -- one that took a step runs
   pub still_runs : (now next : Guest) → now.process.state ≡ state.Running → outcome.Stepped ≡ outcome_of p now → AreLikeGuests next (executed p now)

@@ -19,7 +19,7 @@ module _ (q p : ℕ) (other : q ≡ p → ⊥) where
   none_executed guest none = by_full (is_full p guest)
     where
       tried : HasNone q (translations_executed p guest)
-      tried = none_counted q p other guest.process.memory (map access_of (execution_of guest.process).calls) guest.translations none
+      tried = none_counted q p other guest.process.memory (map access_of (execution_of guest.extension guest.process).calls) guest.translations none
 
       by_full : (b : Bool) → HasNone q (cond b (guest_refused p guest) (guest_executed p guest)).translations
       by_full true = tried
@@ -30,8 +30,8 @@ module _ (q p : ℕ) (other : q ≡ p → ⊥) where
   none_after guest none = by_full (is_full p guest)
     where
       by_full : (b : Bool) → HasNone q (cond b (guest_refused p guest) (guest_stepped p guest)).translations
-      by_full true = none_counted q p other guest.process.memory (map access_of (execution_of guest.process).calls) guest.translations none
-      by_full false = none_counted q p other guest.process.memory (step_of p guest.process).accesses guest.translations none
+      by_full true = none_counted q p other guest.process.memory (map access_of (execution_of guest.extension guest.process).calls) guest.translations none
+      by_full false = none_counted q p other guest.process.memory (step_of guest.extension p guest.process).accesses guest.translations none
 
   none_answered : (guest : Guest) → HasNone q guest.translations → HasNone q (guest_answered p guest).translations
   unfolding translations_asked

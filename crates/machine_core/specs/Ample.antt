@@ -10,11 +10,11 @@ use Rattle.ovl_io.specs.declared.turn.Turn.{Turn}
 use Rattle.ovl_io.specs.declared.turn.Turn.TheVariants.{Stepped, Wrote, Exited, Faulted, Full}
 use Rattle.machine_core.specs.Process.{Process}
 use Rattle.machine_core.specs.Machine.{AnswersAs, Machine, StandsFor, Wholes, unit_limit}
-use Rattle.machine_core.specs.Turns.{Guest, asked_found, exceeds, guest_at, guest_of, is_full, ledger_executed, step_of, store_of, turn_asked, turn_in, turn_of, units_needed}
+use Rattle.machine_core.specs.Turns.{Guest, asked_found, exceeds, execution_of, guest_at, guest_of, is_full, ledger_executed, step_of, store_of, turn_asked, turn_in, turn_of, units_needed}
 use Rattle.ovl_io.specs.Memory.{Access, Memory, denied_at}
 use Rattle.rv_execute.specs.Registers.{Registers, register}
 use Rattle.rv_execute.specs.Calls.{access_of, load_at}
-use Rattle.rv_execute.specs.Execution.{Upshot, Steps, Asks, Faults, execution}
+use Rattle.rv_execute.specs.Execution.{Upshot, Steps, Asks, Faults}
 use Rattle.rv_execute.specs.Step.{Request, buffered, request, altered, write_count}
 
 -- Where the frames are ample for the ledger that an event leads to, the event isn't full.
@@ -70,9 +70,9 @@ altered_fits p Steps regs memory accesses = refl
 altered_fits p Asks regs memory accesses = request_fits p regs memory
 altered_fits p (Faults kind address) regs memory accesses = refl
 
-pub step_fits : (p : ℕ) (process : Process) → is_full_turn (step_of p process).turn ≡ false
-step_fits p process =
-    let e = execution process.registers process.memory in
+pub step_fits : (extension : Bool) (p : ℕ) (process : Process) → is_full_turn (step_of extension p process).turn ≡ false
+step_fits extension p process =
+    let e = execution_of extension process in
     altered_fits p e.upshot e.registers e.memory (map access_of e.calls)
 
 exceeds_ample : (store : Option (ℕ × ℕ)) (needed limit : ℕ) → nat_lt limit needed ≡ false → exceeds store needed limit ≡ false
@@ -82,12 +82,12 @@ exceeds_ample (Some store) needed limit fits = fits
 guest_fits : (p : ℕ) (guest : Guest) → AreAmple guest.frames (ledger_executed p guest) → is_full p guest ≡ false
 unfolding is_full
 guest_fits p guest ample =
-    exceeds_ample (store_of guest.process) (units_needed p guest) (unit_limit guest.frames) (within_ample guest.frames (ledger_executed p guest) ample)
+    exceeds_ample (store_of guest.extension guest.process) (units_needed p guest) (unit_limit guest.frames) (within_ample guest.frames (ledger_executed p guest) ample)
 
 guest_turn_fits : (p : ℕ) (guest : Guest) (full : Bool) → full ≡ false
-    → is_full_turn (cond full (Full (units_needed p guest) (unit_limit guest.frames)) (step_of p guest.process).turn) ≡ false
+    → is_full_turn (cond full (Full (units_needed p guest) (unit_limit guest.frames)) (step_of guest.extension p guest.process).turn) ≡ false
 guest_turn_fits p guest true is = cc
-guest_turn_fits p guest false is = step_fits p guest.process
+guest_turn_fits p guest false is = step_fits guest.extension p guest.process
 
 ample_turn : (p : ℕ) (state : Wholes) → IsAmpleAt p state → is_full_turn (turn_of state p) ≡ false
 ample_turn p state = by_process (get state.processes p)

@@ -1,5 +1,5 @@
-use Rattle.std.specs.Prelude.{ℕ, List, refl}
-use Rattle.std.specs.Coded.{Coded, code_by, coded×, coded_ℕ, coded_list}
+use Rattle.std.specs.Prelude.{ℕ, Bool, List, refl}
+use Rattle.std.specs.Coded.{Coded, code_by, coded×, coded_bool, coded_ℕ, coded_list}
 use Rattle.std.specs.Ordering.{nat_cmp}
 use Rattle.std.specs.FinMap.{FinMap, code}
 use Rattle.ovl_io.specs.Memory.{Memory, Page}
@@ -19,6 +19,6 @@ bytes_code = code coded_ℕ page_bytes_code
 
 abbrev pub machine_code : Coded Machine
 machine_code =
-    code_by (TranslatedView × FinMap nat_cmp declared.Process)
-    (coded× memories.translated_code (code coded_ℕ process.the_row.coded))
-    (λ m. (m.memory, m.processes)) (λ t. record { memory = t.0; processes = t.1 }) (λ _. refl)
+    code_by (TranslatedView × (FinMap nat_cmp declared.Process × Bool))
+    (coded× memories.translated_code (coded× (code coded_ℕ process.the_row.coded) coded_bool))
+    (λ m. (m.memory, (m.processes, m.extension))) (λ t. record { memory = t.0; processes = t.1.0; extension = t.1.1 }) (λ _. refl)

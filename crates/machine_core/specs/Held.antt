@@ -5,14 +5,15 @@ use Rattle.breakpoints.specs.Breakpoints.{Addresses}
 use Rattle.overlay_bits.specs.Lines.{has_line}
 use Rattle.decoded_lines.specs.declared.TheConstants.{KEPT_LINES, LINE_WORDS}
 use Rattle.ovl_io.specs.Memory.{denied_at}
-use Rattle.rv_decode.specs.Encodable.{IsEncodable}
-use Rattle.rv_decode.specs.Meaning.{meaning}
+use Rattle.rv_decode.specs.Encodable.{IsEncodableBy}
+use Rattle.rv_decode.specs.Meaning.{meaning_by}
 use Rattle.rv_decode.specs.declared.instruction.Instr.{Instr}
 use Rattle.rv_execute.specs.Calls.{Call, Fetch, fetch_at, word_at}
 use Rattle.rv_execute.specs.declared.action.Action.{Action}
 use Rattle.rv_execute.specs.declared.action.Action.TheVariants as action
 use Rattle.rv_execute.specs.declared.outcome.Outcome.{Outcome}
 use Rattle.rv_execute.specs.declared.outcome.Outcome.TheVariants.{Stepped, Asked, Fault, Full}
+use Rattle.rv_mul.specs.Tables.{table_of}
 use Rattle.overlay_memory.specs.Code.{IsCodeLine}
 use Rattle.overlay_memory.specs.View.{TranslatedView}
 use Rattle.overlay_pages.specs.State.{memory_of}
@@ -55,14 +56,14 @@ AreInLine address count = (address % 4 ≡ 0) × (address / 4 % LINE_WORDS + cou
 abbrev pub GoesPast : Addresses → ℕ → ℕ → Type 0
 GoesPast stops address count = (k : ℕ) → 0 < k → k < count → contains stops (address + 4 * k) ≡ false
 
--- A word may be fetched from a page at the front of its list, and stands decoded.
-pub record IsWordAt (view : View) (address : ℕ) (word : Option Instr) : Type 0 where
+-- A word may be fetched from a page at the front of its list, and stands decoded, with extension M or without.
+pub record IsWordAt (extension : Bool) (view : View) (address : ℕ) (word : Option Instr) : Type 0 where
   pub low : address < 2 ^ 64
   pub aligned : address % 4 ≡ 0
   pub may : denied_at (memory_of (spaces_lent view) view.space) (fetch_at address) ≡ None
   pub front : IsFront view.space (address / PAGE_BYTES) (lists_lent view)
-  pub means : word ≡ meaning (word_at (memory_of (spaces_lent view) view.space) address)
-  pub encodable : IfSome word IsEncodable
+  pub means : word ≡ meaning_by (table_of extension).has (word_at (memory_of (spaces_lent view) view.space) address)
+  pub encodable : IfSome word (IsEncodableBy (table_of extension).has)
 
 -- What calls made of it where the fetch may be still to be counted.
 pub data Makes (k n pc : ℕ) (calls : List Call) (old : View) (full : Option (ℕ × ℕ)) (new : View) : Type 0 where

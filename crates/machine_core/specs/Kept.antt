@@ -19,25 +19,25 @@ use Rattle.machine_core.specs.declared.process.Process as declared
 abbrev pub KeptProcesses : Type 0
 KeptProcesses = FinMap nat_cmp declared.Process
 
--- the machine that they are with a memory
-abbrev pub machine_of : TranslatedView → KeptProcesses → Machine
-machine_of memory processes = record { memory = memory; processes = processes }
+-- the machine that they are with a memory, with extension M or without
+abbrev pub machine_of : Bool → TranslatedView → KeptProcesses → Machine
+machine_of extension memory processes = record { memory = memory; processes = processes; extension = extension }
 
 -- whether there is a process of that number, and it runs
 abbrev pub runs_at : KeptProcesses → ℕ → Bool
 runs_at processes p = option_map_or (λ (process : declared.Process). runs process.state) (get processes p) false
 
 -- a process that is kept, in its place
-abbrev pub guest_seen : ℕ → State → BareTranslations → declared.Process → Guest
-guest_seen p spaces translations process =
-    record { process = whole_in spaces p process; ledger = books spaces; frames = spaces.frames; translations = translations }
+abbrev pub guest_seen : Bool → ℕ → State → BareTranslations → declared.Process → Guest
+guest_seen extension p spaces translations process =
+    record { process = whole_in spaces p process; ledger = books spaces; frames = spaces.frames; extension = extension; translations = translations }
 
-abbrev pub guest_in : ℕ → TranslatedView → declared.Process → Guest
-guest_in p memory process = guest_seen p (state_of memory) (translations_of memory) process
+abbrev pub guest_in : Bool → ℕ → TranslatedView → declared.Process → Guest
+guest_in extension p memory process = guest_seen extension p (state_of memory) (translations_of memory) process
 
 -- the same in the space that is lent
-abbrev pub guest_lent : View → declared.Process → Guest
-guest_lent view process = guest_in view.space view.memory.now process
+abbrev pub guest_lent : Bool → View → declared.Process → Guest
+guest_lent extension view process = guest_in extension view.space view.memory.now process
 
 -- each other space is as it was, and the same ones are there
 pub record IsBeside (p : ℕ) (old new : State) : Type 0 where

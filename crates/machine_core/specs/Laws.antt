@@ -33,8 +33,9 @@ use Rattle.translation_cache.specs.Bare.{BareTranslations}
 use Rattle.translation_cache.specs.Counted.{counted}
 use Rattle.translation_cache.specs.CountedLaws.{counted_next, counted_one}
 use Rattle.translation_cache.specs.Translations.{flushed}
-use Rattle.rv_execute.specs.CallLaws.{is_requested}
-use Rattle.machine_core.specs.Machine.{AnswersAs, AreLike, IsDropped, LeadsTo, Machine, Processes, Wholes, is_running, kept_in, kept_whole, unit_limit, lists_of, none_saved, processes_of, spaces_of, whole_in, wholes, without_memory, without_process, without_process_at}
+use Rattle.rv_execute.specs.CallLaws.{is_requested_by}
+use Rattle.rv_mul.specs.Tables.{table_of}
+use Rattle.machine_core.specs.Machine.{AnswersAs, AreLike, IsDropped, LeadsTo, Machine, Processes, Wholes, is_running, kept_in, kept_whole, unit_limit, lists_of, none_saved, processes_of, spaces_of, whole_in, wholes, with_extension, with_extension_at, without_memory, without_process, without_process_at}
 use Rattle.machine_core.specs.Turns.{AreLikeGuests, Guest, after_asked, after_execution, after_request, after_step, after_turn, asked_found, came_to, exceeds, executed, execution_of, guest_after, guest_answered, guest_at, guest_executed, guest_of, guest_refused, guest_stepped, is_full, ledger_executed, ledger_stored, outcome_found, outcome_of, process_after, process_executed, request_of, state_executed, step_of, store_of, translations_after, translations_asked, translations_executed, turn_asked, turn_in, turn_of, units_needed, with_guest}
 use Rattle.std.specs.FinSet.{contains}
 use Rattle.breakpoints.specs.Breakpoints.{Addresses}
@@ -64,12 +65,17 @@ whole_by x y q same process =
     let kept = kept_by x y q same process.saved in
     λ i. record { registers = process.regs; state = process.state; memory = memory i; kept = kept i }
 
+-- with extension M or without
+pub wholes_extended : (machine : Machine) (extension : Bool) → wholes (with_extension_at machine extension) ≡ with_extension extension (wholes machine)
+unfolding processes_of
+wholes_extended machine extension = refl
+
 -- a process taken away
 pub wholes_without : (machine : Machine) (p : ℕ) → wholes (without_process_at machine p) ≡ without_process p (wholes machine)
 unfolding processes_of
 wholes_without machine p =
     let gone = viewed_gone (λ q process. whole_in (spaces_of machine) q process) machine.processes p in
-    ap (λ (ps : Processes). record { processes = ps; ledger = (wholes machine).ledger; frames = (wholes machine).frames; translations = lists_of machine }) gone
+    ap (λ (ps : Processes). record { processes = ps; ledger = (wholes machine).ledger; frames = (wholes machine).frames; extension = machine.extension; translations = lists_of machine }) gone
 
 -- whether a process runs, by what is kept of it
 pub runs_shown : (machine : Machine) (q : ℕ) → is_running (wholes machine) q ≡ option_map_or (λ (process : declared.Process). runs process.state) (get machine.processes q) false
@@ -94,7 +100,7 @@ wholes_dropped p old new absent dropped =
     ∙ sym (processes_at old q)) in
     let ledger : books (spaces_of new) ≡ remove (books (spaces_of old)) p = ap books dropped.spaces ∙ books_cut held_page (spaces_of old) p in
     let frames : (spaces_of new).frames ≡ (spaces_of old).frames = ap (λ (s : State). s.frames) dropped.spaces in
-    λ i. record { processes = processes i; ledger = ledger i; frames = frames i; translations = dropped.lists i }
+    λ i. record { processes = processes i; ledger = ledger i; frames = frames i; extension = dropped.extension i; translations = dropped.lists i }
   where
     by_process : (q : ℕ) → (q ≡ p → ⊥) → (o : Option declared.Process) → option_map (whole_in (spaces_of new) q) o ≡ option_map (whole_in (spaces_of old) q) o
     by_process q other None = refl
@@ -104,7 +110,7 @@ wholes_dropped p old new absent dropped =
 -- States that are like each other.
 
 pub like_itself : (a : Wholes) → AreLike a a
-like_itself a = record { processes = refl; ledger = alike_itself a.ledger; frames = refl; translations = refl }
+like_itself a = record { processes = refl; ledger = alike_itself a.ledger; frames = refl; extension = refl; translations = refl }
 
 pub like_same : (a b : Wholes) → a ≡ b → AreLike a b
 like_same a b same = subst (AreLike a) same (like_itself a)
@@ -114,6 +120,7 @@ like_back a b like = record {
   processes = sym like.processes;
   ledger = alike_altered a.ledger b.ledger like.ledger;
   frames = sym like.frames;
+  extension = sym like.extension;
   translations = sym like.translations;
 }
 
@@ -122,6 +129,7 @@ like_chain a b c h k = record {
   processes = h.processes ∙ k.processes;
   ledger = alike_chain a.ledger b.ledger c.ledger h.ledger k.ledger;
   frames = h.frames ∙ k.frames;
+  extension = h.extension ∙ k.extension;
   translations = h.translations ∙ k.translations;
 }
 
@@ -134,11 +142,21 @@ answers f machine result same is state stands = is ∙ same (wholes machine) sta
 pub leads : (f : Wholes → Wholes) (old new : Machine) → ((a b : Wholes) → AreLike a b → AreLike (f a) (f b)) → AreLike (wholes new) (f (wholes old)) → LeadsTo f old new
 leads f old new like is state stands = like_chain (wholes new) (f (wholes old)) (f state) is (like (wholes old) state stands)
 
+pub like_extended : (extension : Bool) (a b : Wholes) → AreLike a b → AreLike (with_extension extension a) (with_extension extension b)
+like_extended extension a b like = record {
+  processes = like.processes;
+  ledger = like.ledger;
+  frames = like.frames;
+  extension = refl;
+  translations = like.translations;
+}
+
 pub like_without : (p : ℕ) (a b : Wholes) → AreLike a b → AreLike (without_process p a) (without_process p b)
 like_without p a b like = record {
   processes = ap (λ (ps : Processes). remove ps p) like.processes;
   ledger = like.ledger;
   frames = like.frames;
+  extension = like.extension;
   translations = like.translations;
 }
 
@@ -147,13 +165,14 @@ like_without_pages p a b like = record {
   processes = like.processes;
   ledger = alike_dropped a.ledger b.ledger like.ledger p;
   frames = like.frames;
+  extension = like.extension;
   translations = ap (flushed p) like.translations;
 }
 
 -- Processes in their places that are like each other.
 
 pub guests_itself : (a : Guest) → AreLikeGuests a a
-guests_itself a = record { process = refl; ledger = alike_itself a.ledger; frames = refl; translations = refl }
+guests_itself a = record { process = refl; ledger = alike_itself a.ledger; frames = refl; extension = refl; translations = refl }
 
 pub guests_same : (a b : Guest) → a ≡ b → AreLikeGuests a b
 guests_same a b same = subst (AreLikeGuests a) same (guests_itself a)
@@ -163,26 +182,29 @@ guests_chain a b c h k = record {
   process = h.process ∙ k.process;
   ledger = alike_chain a.ledger b.ledger c.ledger h.ledger k.ledger;
   frames = h.frames ∙ k.frames;
+  extension = h.extension ∙ k.extension;
   translations = h.translations ∙ k.translations;
 }
 
 -- with another process, another ledger and other translations; all that is fixed stays
 like_moved : {a b : Guest} {x y : Process} {k l : Ledger} {t u : BareTranslations} → AreLikeGuests a b → x ≡ y → AreAlike k l → t ≡ u
     → AreLikeGuests (record a { process = x; ledger = k; translations = t }) (record b { process = y; ledger = l; translations = u })
-like_moved like process ledger translations = record { process = process; ledger = ledger; frames = like.frames; translations = translations }
+like_moved like process ledger translations = record { process = process; ledger = ledger; frames = like.frames; extension = like.extension; translations = translations }
 
 -- the accesses that they try
 like_tried : (p : ℕ) (a b : Guest) → AreLikeGuests a b → translations_executed p a ≡ translations_executed p b
 unfolding translations_executed
 like_tried p a b like =
-    ap (λ (process : Process). counted p process.memory (map access_of (execution_of process).calls) a.translations) like.process
-    ∙ ap (λ t. counted p b.process.memory (map access_of (execution_of b.process).calls) t) like.translations
+    ap (λ (process : Process). counted p process.memory (map access_of (execution_of a.extension process).calls) a.translations) like.process
+    ∙ ap (λ x. counted p b.process.memory (map access_of (execution_of x b.process).calls) a.translations) like.extension
+    ∙ ap (λ t. counted p b.process.memory (map access_of (execution_of b.extension b.process).calls) t) like.translations
 
 like_stepped : (p : ℕ) (a b : Guest) → AreLikeGuests a b → translations_after p a ≡ translations_after p b
 unfolding translations_after
 like_stepped p a b like =
-    ap (λ (process : Process). counted p process.memory (step_of p process).accesses a.translations) like.process
-    ∙ ap (λ t. counted p b.process.memory (step_of p b.process).accesses t) like.translations
+    ap (λ (process : Process). counted p process.memory (step_of a.extension p process).accesses a.translations) like.process
+    ∙ ap (λ x. counted p b.process.memory (step_of x p b.process).accesses a.translations) like.extension
+    ∙ ap (λ t. counted p b.process.memory (step_of b.extension p b.process).accesses t) like.translations
 
 like_requested : (p : ℕ) (a b : Guest) → AreLikeGuests a b → translations_asked p a ≡ translations_asked p b
 unfolding translations_asked
@@ -200,8 +222,10 @@ alike_stored p speculating (Some store) k l alike = alike_after (event.Store spe
 pub like_ledger : (p : ℕ) (a b : Guest) → AreLikeGuests a b → AreAlike (ledger_executed p a) (ledger_executed p b)
 unfolding ledger_executed
 like_ledger p a b like =
-    subst (λ (process : Process). AreAlike (ledger_stored p (is_speculating a.process) (store_of a.process) a.ledger) (ledger_stored p (is_speculating process) (store_of process) b.ledger)) like.process
-    (alike_stored p (is_speculating a.process) (store_of a.process) a.ledger b.ledger like.ledger)
+    let stored : Ledger = ledger_stored p (is_speculating a.process) (store_of a.extension a.process) a.ledger in
+    subst (λ x. AreAlike stored (ledger_stored p (is_speculating b.process) (store_of x b.process) b.ledger)) like.extension
+    (subst (λ (process : Process). AreAlike stored (ledger_stored p (is_speculating process) (store_of a.extension process) b.ledger)) like.process
+    (alike_stored p (is_speculating a.process) (store_of a.extension a.process) a.ledger b.ledger like.ledger))
 
 pub like_needed : (p : ℕ) (a b : Guest) → AreLikeGuests a b → units_needed p a ≡ units_needed p b
 like_needed p a b like = units_alike (ledger_executed p a) (ledger_executed p b) (like_ledger p a b like)
@@ -209,23 +233,26 @@ like_needed p a b like = units_alike (ledger_executed p a) (ledger_executed p b)
 pub like_full : (p : ℕ) (a b : Guest) → AreLikeGuests a b → is_full p a ≡ is_full p b
 unfolding is_full
 like_full p a b like =
-    ap (λ n. exceeds (store_of a.process) n (unit_limit a.frames)) (like_needed p a b like)
-    ∙ ap (λ (process : Process). exceeds (store_of process) (units_needed p b) (unit_limit a.frames)) like.process
-    ∙ ap (λ n. exceeds (store_of b.process) (units_needed p b) (unit_limit n)) like.frames
+    ap (λ n. exceeds (store_of a.extension a.process) n (unit_limit a.frames)) (like_needed p a b like)
+    ∙ ap (λ (process : Process). exceeds (store_of a.extension process) (units_needed p b) (unit_limit a.frames)) like.process
+    ∙ ap (λ x. exceeds (store_of x b.process) (units_needed p b) (unit_limit a.frames)) like.extension
+    ∙ ap (λ n. exceeds (store_of b.extension b.process) (units_needed p b) (unit_limit n)) like.frames
 
 pub like_outcome : (p : ℕ) (a b : Guest) → AreLikeGuests a b → outcome_of p a ≡ outcome_of p b
 like_outcome p a b like =
-    ap (λ f. cond f (outcome.Full (units_needed p a) (unit_limit a.frames)) (outcome_by (execution_of a.process).upshot)) (like_full p a b like)
-    ∙ ap (λ n. cond (is_full p b) (outcome.Full n (unit_limit a.frames)) (outcome_by (execution_of a.process).upshot)) (like_needed p a b like)
-    ∙ ap (λ n. cond (is_full p b) (outcome.Full (units_needed p b) (unit_limit n)) (outcome_by (execution_of a.process).upshot)) like.frames
-    ∙ ap (λ (process : Process). cond (is_full p b) (outcome.Full (units_needed p b) (unit_limit b.frames)) (outcome_by (execution_of process).upshot)) like.process
+    ap (λ f. cond f (outcome.Full (units_needed p a) (unit_limit a.frames)) (outcome_by (execution_of a.extension a.process).upshot)) (like_full p a b like)
+    ∙ ap (λ n. cond (is_full p b) (outcome.Full n (unit_limit a.frames)) (outcome_by (execution_of a.extension a.process).upshot)) (like_needed p a b like)
+    ∙ ap (λ n. cond (is_full p b) (outcome.Full (units_needed p b) (unit_limit n)) (outcome_by (execution_of a.extension a.process).upshot)) like.frames
+    ∙ ap (λ (process : Process). cond (is_full p b) (outcome.Full (units_needed p b) (unit_limit b.frames)) (outcome_by (execution_of a.extension process).upshot)) like.process
+    ∙ ap (λ x. cond (is_full p b) (outcome.Full (units_needed p b) (unit_limit b.frames)) (outcome_by (execution_of x b.process).upshot)) like.extension
 
 pub like_turn_in : (p : ℕ) (a b : Guest) → AreLikeGuests a b → turn_in p a ≡ turn_in p b
 like_turn_in p a b like =
-    ap (λ f. cond f (turn.Full (units_needed p a) (unit_limit a.frames)) (step_of p a.process).turn) (like_full p a b like)
-    ∙ ap (λ n. cond (is_full p b) (turn.Full n (unit_limit a.frames)) (step_of p a.process).turn) (like_needed p a b like)
-    ∙ ap (λ n. cond (is_full p b) (turn.Full (units_needed p b) (unit_limit n)) (step_of p a.process).turn) like.frames
-    ∙ ap (λ (process : Process). cond (is_full p b) (turn.Full (units_needed p b) (unit_limit b.frames)) (step_of p process).turn) like.process
+    ap (λ f. cond f (turn.Full (units_needed p a) (unit_limit a.frames)) (step_of a.extension p a.process).turn) (like_full p a b like)
+    ∙ ap (λ n. cond (is_full p b) (turn.Full n (unit_limit a.frames)) (step_of a.extension p a.process).turn) (like_needed p a b like)
+    ∙ ap (λ n. cond (is_full p b) (turn.Full (units_needed p b) (unit_limit n)) (step_of a.extension p a.process).turn) like.frames
+    ∙ ap (λ (process : Process). cond (is_full p b) (turn.Full (units_needed p b) (unit_limit b.frames)) (step_of a.extension p process).turn) like.process
+    ∙ ap (λ x. cond (is_full p b) (turn.Full (units_needed p b) (unit_limit b.frames)) (step_of x p b.process).turn) like.extension
 
 like_cond : (c d : Bool) (a b x y : Guest) → c ≡ d → AreLikeGuests a b → AreLikeGuests x y → AreLikeGuests (cond c a x) (cond d b y)
 like_cond true true a b x y e h k = h
@@ -237,13 +264,13 @@ pub like_executed : (p : ℕ) (a b : Guest) → AreLikeGuests a b → AreLikeGue
 like_executed p a b like =
     like_cond (is_full p a) (is_full p b) (guest_refused p a) (guest_refused p b) (guest_executed p a) (guest_executed p b) (like_full p a b like)
     (like_refused p a b like)
-    (like_moved like (ap process_executed like.process) (like_ledger p a b like) (like_tried p a b like))
+    (like_moved like (ap (process_executed a.extension) like.process ∙ ap (λ x. process_executed x b.process) like.extension) (like_ledger p a b like) (like_tried p a b like))
 
 pub like_after : (p : ℕ) (a b : Guest) → AreLikeGuests a b → AreLikeGuests (guest_after p a) (guest_after p b)
 like_after p a b like =
     like_cond (is_full p a) (is_full p b) (guest_refused p a) (guest_refused p b) (guest_stepped p a) (guest_stepped p b) (like_full p a b like)
     (like_refused p a b like)
-    (like_moved like (ap (process_after p) like.process) (like_ledger p a b like) (like_stepped p a b like))
+    (like_moved like (ap (process_after a.extension p) like.process ∙ ap (λ x. process_after x p b.process) like.extension) (like_ledger p a b like) (like_stepped p a b like))
 
 pub like_answered : (p : ℕ) (a b : Guest) → AreLikeGuests a b → AreLikeGuests (guest_answered p a) (guest_answered p b)
 like_answered p a b like =
@@ -307,7 +334,7 @@ module _ (p : ℕ) (a b : Wholes) (like : AreLike a b) where
     where
       by_found : (o : Option Process) → option_map_or f (option_map (guest_of a) o) d ≡ option_map_or f (option_map (guest_of b) o) d
       by_found None = refl
-      by_found (Some process) = same (guest_of a process) (guest_of b process) (record { process = refl; ledger = like.ledger; frames = like.frames; translations = like.translations })
+      by_found (Some process) = same (guest_of a process) (guest_of b process) (record { process = refl; ledger = like.ledger; frames = like.frames; extension = like.extension; translations = like.translations })
 
   pub after_both : (f : Guest → Guest) → ((g h : Guest) → AreLikeGuests g h → AreLikeGuests (f g) (f h))
       → AreLike (option_map_or (λ guest. with_guest a p (f guest)) (guest_at a p) a) (option_map_or (λ guest. with_guest b p (f guest)) (guest_at b p) b)
@@ -319,11 +346,12 @@ module _ (p : ℕ) (a b : Wholes) (like : AreLike a b) where
           → AreLike (option_map_or (λ guest. with_guest a p (f guest)) (option_map (guest_of a) o) a) (option_map_or (λ guest. with_guest b p (f guest)) (option_map (guest_of b) o) b)
       by_found None = like
       by_found (Some process) =
-          let more = same (guest_of a process) (guest_of b process) (record { process = refl; ledger = like.ledger; frames = like.frames; translations = like.translations }) in
+          let more = same (guest_of a process) (guest_of b process) (record { process = refl; ledger = like.ledger; frames = like.frames; extension = like.extension; translations = like.translations }) in
           record {
             processes = ap (λ (ps : Processes). insert ps p (f (guest_of a process)).process) like.processes ∙ ap (insert b.processes p) more.process;
             ledger = more.ledger;
             frames = more.frames;
+            extension = more.extension;
             translations = more.translations;
           }
 
@@ -350,6 +378,25 @@ module _ (p : ℕ) (a b : Wholes) (like : AreLike a b) where
 
   pub like_running : is_running a p ≡ is_running b p
   like_running = ap (λ (ps : Processes). option_map_or (λ (process : Process). runs process.state) (get ps p) false) like.processes
+
+-- a turn leaves whether extension M is there
+pub after_extension : (state : Wholes) (p : ℕ) → (after_turn state p).extension ≡ state.extension
+after_extension state p = by_found (get state.processes p)
+  where
+    by_full : (process : Process) (b : Bool) → (cond b (guest_refused p (guest_of state process)) (guest_stepped p (guest_of state process))).extension ≡ state.extension
+    by_full process true = refl
+    by_full process false = refl
+
+    by_found : (o : Option Process) → (option_map_or (λ guest. with_guest state p (guest_after p guest)) (option_map (guest_of state) o) state).extension ≡ state.extension
+    by_found None = refl
+    by_found (Some process) = by_full process (is_full p (guest_of state process))
+
+pub number_extension : (p : ℕ) (state : Wholes) → (after_number p state).extension ≡ state.extension
+number_extension p state = by_test (is_running state p)
+  where
+    by_test : (b : Bool) → (cond b (after_turn state p) state).extension ≡ state.extension
+    by_test true = after_extension state p
+    by_test false = refl
 
 like_either : (c d : Bool) (a b x y : Wholes) → c ≡ d → AreLike a b → AreLike x y → AreLike (cond c a x) (cond d b y)
 like_either true true a b x y e h k = h
@@ -390,7 +437,7 @@ module _ (all : Wholes) (p : ℕ) (process : Process) (there : get all.processes
   guest = guest_of all process
 
   abbrev e : Execution
-  e = execution_of process
+  e = execution_of all.extension process
 
   at_there : {X : Type 0} (f : Option Guest → X) → f (guest_at all p) ≡ f (Some guest)
   at_there f = ap (λ (o : Option Process). f (option_map (guest_of all) o)) there
@@ -407,7 +454,7 @@ module _ (all : Wholes) (p : ℕ) (process : Process) (there : get all.processes
   -- where there aren't units enough
   full_there : is_full p guest ≡ true → IsTurn all p (turn.Full (units_needed p guest) (unit_limit all.frames))
   full_there full = record {
-    turn_is = turn_there ∙ ap (λ b. cond b (turn.Full (units_needed p guest) (unit_limit all.frames)) (step_of p process).turn) full;
+    turn_is = turn_there ∙ ap (λ b. cond b (turn.Full (units_needed p guest) (unit_limit all.frames)) (step_of all.extension p process).turn) full;
     after_is = after_there ∙ ap (λ b. with_guest all p (cond b (guest_refused p guest) (guest_stepped p guest))) full
         ∙ sym (executed_there ∙ ap (λ b. with_guest all p (cond b (guest_refused p guest) (guest_executed p guest))) full);
   }
@@ -416,19 +463,19 @@ module _ (all : Wholes) (p : ℕ) (process : Process) (there : get all.processes
   module _ (enough : is_full p guest ≡ false) where
     turn_by : (u : Upshot) → e.upshot ≡ u → turn_of all p ≡ (altered p u e.registers e.memory (map access_of e.calls)).turn
     turn_by u is =
-        turn_there ∙ ap (λ b. cond b (turn.Full (units_needed p guest) (unit_limit all.frames)) (step_of p process).turn) enough
+        turn_there ∙ ap (λ b. cond b (turn.Full (units_needed p guest) (unit_limit all.frames)) (step_of all.extension p process).turn) enough
         ∙ ap (λ v. (altered p v e.registers e.memory (map access_of e.calls)).turn) is
 
     left_by : Process → BareTranslations → Wholes
     left_by left translations =
-        with_guest all p (record { process = left; ledger = ledger_executed p guest; frames = all.frames; translations = translations })
+        with_guest all p (record { process = left; ledger = ledger_executed p guest; frames = all.frames; extension = all.extension; translations = translations })
 
     -- the accesses of a request come behind the fetch
     asked_counted : e.upshot ≡ Asks → (accesses : List Access)
         → counted p process.memory (map access_of e.calls ++ accesses) all.translations ≡ counted p e.memory accesses (translations_executed p guest)
     unfolding translations_executed
     asked_counted is accesses =
-        let asked = is_requested process.registers process.memory is in
+        let asked = is_requested_by (table_of all.extension) process.registers process.memory is in
         let fetch = fetch_at asked.at in
         ap (λ (calls : List Call). counted p process.memory (map access_of calls ++ accesses) all.translations) asked.calls
         ∙ counted_next p process.memory fetch accesses all.translations asked.may
@@ -471,7 +518,7 @@ module _ (all : Wholes) (p : ℕ) (process : Process) (there : get all.processes
               ∙ ap (left_by (after_step process (altered p Asks e.registers e.memory (map access_of e.calls)))) counts
               ∙ sym (ap (λ (s : Wholes). after_asked s p) now
               ∙ ap (λ (o : Option Process). option_map_or (λ g. with_guest (left_by left tried) p (guest_answered p g)) (option_map (guest_of (left_by left tried)) o) (left_by left tried)) found
-              ∙ ap (λ (ps : Processes). record { processes = ps; ledger = ledger_executed p guest; frames = all.frames; translations = counted p e.memory asks.accesses tried })
+              ∙ ap (λ (ps : Processes). record { processes = ps; ledger = ledger_executed p guest; frames = all.frames; extension = all.extension; translations = counted p e.memory asks.accesses tried })
               (insert_over all.processes p left (after_request e.memory process asks)));
           running = ap (λ (s : Wholes). is_running s p) now ∙ ap (λ (o : Option Process). option_map_or (λ (q : Process). runs q.state) o false) found;
         }

@@ -76,9 +76,10 @@ pub record IsLoaded (p : ℕ) (file : List ℕ) (old new : Machine) : Type 0 whe
   pub none_awaits : NoneAwaits (spaces_of new) p
   pub others : StaysBut p old new
 
--- the same spaces, translations and processes
+-- the same spaces, translations and processes, and the same extension
 abbrev pub IsAsBefore : Machine → Machine → Type 0
-IsAsBefore old new = (spaces_of new ≡ spaces_of old) × (lists_of new ≡ lists_of old) × (new.processes ≡ old.processes)
+IsAsBefore old new =
+    (spaces_of new ≡ spaces_of old) × (lists_of new ≡ lists_of old) × (new.processes ≡ old.processes) × (new.extension ≡ old.extension)
 
 -- How a load comes out: full exactly where the units of the ledger after it exceed the limit, and then nothing changes. Want of
 -- memory comes only where they don't.

@@ -27,6 +27,7 @@ like_loaded p file a b like = record {
   processes = ap (λ (ps : Processes). insert ps p (loaded_process file)) like.processes;
   ledger = like_loaded_ledger p file a b like;
   frames = like.frames;
+  extension = like.extension;
   translations = like.translations;
 }
 
@@ -43,12 +44,12 @@ processes_by spaces processes = viewed (λ p process. whole_in spaces p process)
 
 pub same_wholes : (old new : Machine) → IsAsBefore old new → wholes new ≡ wholes old
 unfolding processes_of processes_by
-same_wholes old new (spaces, lists, processes) =
+same_wholes old new (spaces, lists, processes, extension) =
     let both : processes_of new ≡ processes_of old = ap (λ s. processes_by s new.processes) spaces ∙ ap (processes_by (spaces_of old)) processes in
-    λ i. record { processes = both i; ledger = books (spaces i); frames = (spaces i).frames; translations = lists i }
+    λ i. record { processes = both i; ledger = books (spaces i); frames = (spaces i).frames; extension = extension i; translations = lists i }
 
 pub same_stays : (p : ℕ) (old new : Machine) → IsAsBefore old new → StaysBut p old new
-same_stays p old new (spaces, lists, processes) = record {
+same_stays p old new (spaces, lists, processes, extension) = record {
   spaces = λ q other. ap (λ (s : State). space_in s q) spaces;
   there = λ q other. ap (λ (s : State). holds_space s q) spaces;
   processes = λ q other. ap (λ m. get m q) processes;

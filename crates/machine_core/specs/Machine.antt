@@ -24,12 +24,13 @@ use Rattle.machine_core.specs.declared.process.SavedRegs.{SavedRegs}
 abbrev pub Processes : Type 0
 Processes = FinMap nat_cmp Process
 
--- The copying machine: whole processes by number, with the ledger of the pages of all spaces, how many frames there are, and the pages
--- that were translated last, with their counts.
+-- The copying machine: whole processes by number, with the ledger of the pages of all spaces, how many frames there are, whether it has
+-- extension M, and the pages that were translated last, with their counts.
 pub record Wholes : Type 0 where
   pub processes : Processes
   pub ledger : Ledger
   pub frames : ℕ
+  pub extension : Bool
   pub translations : BareTranslations
 
 -- how many units there may be
@@ -37,10 +38,11 @@ abbrev pub unit_limit : ℕ → ℕ
 unit_limit frames = FRAME_UNITS * frames
 
 -- The machine has the memories of spaces by number, and processes by number, each with its registers and its state. A process
--- has the space of its own number.
+-- has the space of its own number. What its words mean goes by whether it has extension M.
 pub record Machine : Type 0 where
   pub memory : TranslatedView
   pub processes : FinMap nat_cmp declared.Process
+  pub extension : Bool
 
 -- what its memories are, page by page
 abbrev pub spaces_of : Machine → State
@@ -90,6 +92,7 @@ wholes machine =
       processes = processes_of machine;
       ledger = books (spaces_of machine);
       frames = (spaces_of machine).frames;
+      extension = machine.extension;
       translations = lists_of machine;
     }
 
@@ -98,10 +101,11 @@ pub record AreLike (a b : Wholes) : Type 0 where
   pub processes : a.processes ≡ b.processes
   pub ledger : AreAlike a.ledger b.ledger
   pub frames : a.frames ≡ b.frames
+  pub extension : a.extension ≡ b.extension
   pub translations : a.translations ≡ b.translations
 
 -- The machine stands for a state of the copying machine: the processes are that state's, memories included, the frames are
--- as many, the translations are the same, and the ledgers are alike.
+-- as many, extension M is there or not, the translations are the same, and the ledgers are alike.
 abbrev pub StandsFor : Machine → Wholes → Type 0
 StandsFor machine state = AreLike (wholes machine) state
 
@@ -142,6 +146,13 @@ with_process_at machine p process = record machine { processes = insert machine.
 abbrev pub without_process_at : Machine → ℕ → Machine
 without_process_at machine p = record machine { processes = remove machine.processes p }
 
+-- with extension M or without it; all else stays
+abbrev pub with_extension : Bool → Wholes → Wholes
+with_extension extension state = record state { extension = extension }
+
+abbrev pub with_extension_at : Machine → Bool → Machine
+with_extension_at machine extension = record machine { extension = extension }
+
 -- with another memory
 abbrev pub with_memory : Machine → TranslatedView → Machine
 with_memory machine memory = record machine { memory = memory }
@@ -151,6 +162,7 @@ pub record IsDropped (p : ℕ) (old new : Machine) : Type 0 where
   pub spaces : spaces_of new ≡ cut_space (spaces_of old) p
   pub lists : lists_of new ≡ flushed p (lists_of old)
   pub processes : new.processes ≡ old.processes
+  pub extension : new.extension ≡ old.extension
 
 -- the numbers of the processes that run, ascending
 abbrev pub running_among : Processes → List ℕ

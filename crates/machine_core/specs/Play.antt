@@ -27,11 +27,11 @@ turns_of p (q ∷ turns) state =
     (if q == p && (is_running state q && not (is_full_at state q)) then 1 else 0) + turns_of p turns (after_number q state)
 
 -- what so many turns of process p make of it, alone
-abbrev pub own_turns : ℕ → ℕ → Process → Process
-own_turns p zero process = process
-own_turns p (suc n) process = own_turns p n (process_after p process)
+abbrev pub own_turns : Bool → ℕ → ℕ → Process → Process
+own_turns extension p zero process = process
+own_turns extension p (suc n) process = own_turns extension p n (process_after extension p process)
 
 -- each process is its own turns: those that it took in the run over a list
 abbrev pub AreOwnTurns : List ℕ → Wholes → Wholes → Type 0
 AreOwnTurns turns before after =
-    (p : ℕ) → get after.processes p ≡ option_map (own_turns p (turns_of p turns before)) (get before.processes p)
+    (p : ℕ) → get after.processes p ≡ option_map (own_turns before.extension p (turns_of p turns before)) (get before.processes p)

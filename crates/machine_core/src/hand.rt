@@ -10,6 +10,7 @@ use crate::view::View;
 use decoded_lines::DecodedLines;
 use overlay_bits::Bits;
 use overlay_memory::OverlayMemory;
+use rv_decode::Decoder;
 use rv_execute::Action;
 use sizes::{LINE_BYTES, PAGE_BYTES, PAGE_LINES};
 use translation_cache::SETS;
@@ -135,11 +136,11 @@ impl Hand {
     /// whether it did.
     #[cold]
     #[inline(never)]
-    fn take(
+    fn take<D: Decoder>(
         &mut self,
         memory: &OverlayMemory,
         space: u16,
-        lines: &mut DecodedLines,
+        lines: &mut DecodedLines<D>,
         pc: u64,
     ) -> bool
         requires hand { IsInHand lines.old memory.now space self.old }
@@ -162,11 +163,11 @@ impl Hand {
 
     /// Has the line of the instruction at pc in hand, where it is there or can be taken. Answers whether it has.
     #[inline]
-    pub(crate) fn reach(
+    pub(crate) fn reach<D: Decoder>(
         &mut self,
         memory: &OverlayMemory,
         space: u16,
-        lines: &mut DecodedLines,
+        lines: &mut DecodedLines<D>,
         pc: u64,
     ) -> bool
         requires hand { IsInHand lines.old memory.now space self.old }

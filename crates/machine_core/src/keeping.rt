@@ -1,6 +1,6 @@
 //! Processes by number and the list of running numbers, kept together by turns and by edits.
 
-ghost use Rattle.std.specs.Prelude.{◌≡◌, true, OnOk, OnErr};
+ghost use Rattle.std.specs.Prelude.{◌≡◌, Bool, true, OnOk, OnErr};
 ghost use Rattle.std.specs.FinMap as map;
 ghost use Rattle.std.specs.Option.{is_some};
 ghost use Rattle.machine_core.specs.Machine.{AnswersAs, has_space, is_running, wholes};
@@ -8,6 +8,7 @@ ghost use Rattle.machine_core.specs.Turns.{after_asked, turn_asked};
 ghost use Rattle.machine_core.specs.Executions.{after_executions, came_to_last, steps_to, stops_in};
 ghost use Rattle.machine_core.specs.Kept.{IsChanged, IsListBut, IsRunningList, machine_of, runs_at};
 ghost use Rattle.overlay_memory.specs.View.{NoneAwaits, state_of};
+ghost use Rattle.space_maps.specs.Spaces.{holds_space};
 
 use crate::guest::answer_request;
 use crate::process::{Process, is_running};
@@ -19,6 +20,7 @@ use decoded_lines::DecodedLines;
 use overlay_memory::OverlayMemory;
 use ovl_io::Turn;
 use rv_execute::Outcome;
+use rv_mul::Instructions;
 use std::alloc::AllocError;
 
 /// Whether there is a process of that number, and it runs.
@@ -47,23 +49,23 @@ fn relist(processes: &ByNumber<Process>, running: &mut AscendingNumbers, p: u16)
 /// Executes up to so many instructions of a running process, whose space is there, as long as each is a step and leaves the pc at no
 /// stop. Answers also whether it still runs.
 #[inline]
-fn execute_in(
+fn execute_in<const EXTENSION: bool>(
     processes: &mut ByNumber<Process>,
     memory: &mut OverlayMemory,
-    lines: &mut DecodedLines,
+    lines: &mut DecodedLines<Instructions<EXTENSION>>,
     p: u16,
     most: u32,
     stops: Option<&Addresses>,
 ) -> ((u32, Outcome), bool)
-    requires runs { is_running (wholes (machine_of memory.old processes.old)) p ≡ true }
-    requires there { has_space (machine_of memory.old processes.old) p ≡ true }
+    requires runs { is_running (wholes (machine_of EXTENSION memory.old processes.old)) p ≡ true }
+    requires there { has_space (machine_of EXTENSION memory.old processes.old) p ≡ true }
     requires none_awaits { NoneAwaits (state_of memory.old) p }
     ensures counts { AnswersAs (λ state. steps_to (stops_in stops.entry) most state p)
-        (machine_of memory.old processes.old) result.0.0 }
+        (machine_of EXTENSION memory.old processes.old) result.0.0 }
     ensures answers { AnswersAs (λ state. came_to_last (stops_in stops.entry) most state p)
-        (machine_of memory.old processes.old) result.0.1 }
-    ensures changed { IsChanged p (machine_of memory.old processes.old)
-        (machine_of memory.new processes.new)
+        (machine_of EXTENSION memory.old processes.old) result.0.1 }
+    ensures changed { IsChanged p (machine_of EXTENSION memory.old processes.old)
+        (machine_of EXTENSION memory.new processes.new)
         (λ state. after_executions (stops_in stops.entry) most state p) }
     ensures runs { result.1 ≡ runs_at processes.new p }
 {
@@ -79,25 +81,25 @@ fn execute_in(
 /// Executes up to so many instructions of a running process, whose space is there, as long as each is a step and leaves the pc at no
 /// stop. One that faults is taken out of the list.
 #[inline]
-pub(crate) fn execute_turns(
+pub(crate) fn execute_turns<const EXTENSION: bool>(
     processes: &mut ByNumber<Process>,
     memory: &mut OverlayMemory,
     running: &mut AscendingNumbers,
-    lines: &mut DecodedLines,
+    lines: &mut DecodedLines<Instructions<EXTENSION>>,
     p: u16,
     most: u32,
     stops: Option<&Addresses>,
 ) -> (u32, Outcome)
     requires kept { IsRunningList processes.old running.old }
-    requires runs { is_running (wholes (machine_of memory.old processes.old)) p ≡ true }
-    requires there { has_space (machine_of memory.old processes.old) p ≡ true }
+    requires runs { is_running (wholes (machine_of EXTENSION memory.old processes.old)) p ≡ true }
+    requires there { has_space (machine_of EXTENSION memory.old processes.old) p ≡ true }
     requires none_awaits { NoneAwaits (state_of memory.old) p }
     ensures counts { AnswersAs (λ state. steps_to (stops_in stops.entry) most state p)
-        (machine_of memory.old processes.old) result.0 }
+        (machine_of EXTENSION memory.old processes.old) result.0 }
     ensures answers { AnswersAs (λ state. came_to_last (stops_in stops.entry) most state p)
-        (machine_of memory.old processes.old) result.1 }
-    ensures changed { IsChanged p (machine_of memory.old processes.old)
-        (machine_of memory.new processes.new)
+        (machine_of EXTENSION memory.old processes.old) result.1 }
+    ensures changed { IsChanged p (machine_of EXTENSION memory.old processes.old)
+        (machine_of EXTENSION memory.new processes.new)
         (λ state. after_executions (stops_in stops.entry) most state p) }
     ensures kept { IsRunningList processes.new running.new }
 {
@@ -109,13 +111,14 @@ pub(crate) fn execute_turns(
     came
 }
 
-/// Does what a running process, whose space is there, asked for. Answers also whether it still runs.
+/// Does what a running process, whose space is there, asked for, with extension M or without. Answers also whether it still runs.
 fn answer_in(processes: &mut ByNumber<Process>, memory: &mut OverlayMemory, p: u16) -> (Turn, bool)
-    requires runs { is_running (wholes (machine_of memory.old processes.old)) p ≡ true }
-    requires there { has_space (machine_of memory.old processes.old) p ≡ true }
-    ensures answers { AnswersAs (λ state. turn_asked state p) (machine_of memory.old processes.old) result.0 }
-    ensures changed { IsChanged p (machine_of memory.old processes.old)
-        (machine_of memory.new processes.new)
+    requires runs { runs_at processes.old p ≡ true }
+    requires there { holds_space (state_of memory.old) p ≡ true }
+    ensures answers { (extension : Bool) → AnswersAs (λ state. turn_asked state p)
+        (machine_of extension memory.old processes.old) result.0 }
+    ensures changed { (extension : Bool) → IsChanged p (machine_of extension memory.old processes.old)
+        (machine_of extension memory.new processes.new)
         (λ state. after_asked state p) }
     ensures runs { result.1 ≡ runs_at processes.new p }
 {
@@ -128,7 +131,7 @@ fn answer_in(processes: &mut ByNumber<Process>, memory: &mut OverlayMemory, p: u
     }
 }
 
-/// Does what a running process, whose space is there, asked for. One that exits is taken out of the list.
+/// Does what a running process, whose space is there, asked for, with extension M or without. One that exits is taken out of the list.
 pub(crate) fn answer_turn(
     processes: &mut ByNumber<Process>,
     memory: &mut OverlayMemory,
@@ -136,11 +139,12 @@ pub(crate) fn answer_turn(
     p: u16,
 ) -> Turn
     requires kept { IsRunningList processes.old running.old }
-    requires runs { is_running (wholes (machine_of memory.old processes.old)) p ≡ true }
-    requires there { has_space (machine_of memory.old processes.old) p ≡ true }
-    ensures answers { AnswersAs (λ state. turn_asked state p) (machine_of memory.old processes.old) result }
-    ensures changed { IsChanged p (machine_of memory.old processes.old)
-        (machine_of memory.new processes.new)
+    requires runs { runs_at processes.old p ≡ true }
+    requires there { holds_space (state_of memory.old) p ≡ true }
+    ensures answers { (extension : Bool) → AnswersAs (λ state. turn_asked state p)
+        (machine_of extension memory.old processes.old) result }
+    ensures changed { (extension : Bool) → IsChanged p (machine_of extension memory.old processes.old)
+        (machine_of extension memory.new processes.new)
         (λ state. after_asked state p) }
     ensures kept { IsRunningList processes.new running.new }
 {

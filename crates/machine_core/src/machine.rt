@@ -10,7 +10,7 @@ ghost use Rattle.sizes.specs.declared.TheConstants.{LAST_SPACE, MOST_FRAMES};
 ghost use Rattle.elf_loader.specs.Image.{IsImageOf};
 ghost use Rattle.overlay_pages.specs.Calls.{IsEmptyState};
 ghost use Rattle.translation_cache.specs.Translations.{no_translations};
-ghost use Rattle.machine_core.specs.Machine.{AnswersAs, AreLike, HaveSpaces, IsDropped, KeepsPlaces, LeadsTo, StaysBut, has_saved, has_space, is_marked, is_running, keys_from, lists_of, registers_at, registers_shown, running_numbers, shown_at, spaces_of, wholes, with_memory, with_process_at, without_memory, without_process, without_process_at};
+ghost use Rattle.machine_core.specs.Machine.{AnswersAs, AreLike, HaveSpaces, IsDropped, KeepsPlaces, LeadsTo, StaysBut, has_saved, has_space, is_marked, is_running, keys_from, lists_of, registers_at, registers_shown, running_numbers, shown_at, spaces_of, wholes, with_extension, with_extension_at, with_memory, with_process_at, without_memory, without_process, without_process_at};
 ghost use Rattle.machine_core.specs.Turns.{after_asked, after_execution, after_turn, came_to, turn_asked, turn_of};
 ghost use Rattle.machine_core.specs.Executions.{after_executions, came_to_last, steps_to, stops_in};
 ghost use Rattle.machine_core.specs.Ample.{IsAmplyTaken};
@@ -31,6 +31,7 @@ use elf_loader::Image;
 use overlay_memory::{OverlayMemory, SpaceError};
 use ovl_io::{ProcessState, Turn};
 use rv_execute::{Outcome, Regs};
+use rv_mul::Instructions;
 use sizes::{FRAME_UNITS, STACK_PAGES, STACK_POINTER};
 use std::alloc::{AllocError, Global};
 use std::marker::Model;
@@ -41,7 +42,10 @@ pub struct Machine {
     memory: OverlayMemory,
     processes: ByNumber<Process>,
     running: AscendingNumbers,
-    lines: DecodedLines,
+    extension: bool,
+    // decoded without extension M, and with it: those that aren't asked for cost their memory alone
+    base_lines: DecodedLines<Instructions<false>>,
+    extension_lines: DecodedLines<Instructions<true>>,
 }
 
 impl Model for Machine {
@@ -54,13 +58,13 @@ impl Model for Machine {
 
     ghost use Rattle.machine_core.specs.Kept.{machine_of, IsRunningList};
 
-    ghost view = { λ m. machine_of m.memory m.processes };
+    ghost view = { λ m. machine_of m.extension m.memory m.processes };
 
     ghost invariant = { λ m. IsRunningList m.processes m.running };
 }
 
 impl Machine {
-    /// A machine without a space and without a process, of 1 to 65,536 frames. Takes all the memory that frames and overlays ever
+    /// A machine without a space and without a process, of 1 to 65,536 frames, without extension M. Takes all the memory that frames and overlays ever
     /// need, or answers the want of it.
     pub fn new(alloc: Global, frames: u32) -> Result<Machine, AllocError>
         requires some { 0 < frames }
@@ -68,13 +72,26 @@ impl Machine {
         ensures spaces { IfOk result (λ machine. IsEmptyState frames (spaces_of machine)) }
         ensures processes { IfOk result (λ machine. machine.processes ≡ map.empty) }
         ensures lists { IfOk result (λ machine. lists_of machine ≡ no_translations) }
+        ensures extension { IfOk result (λ machine. machine.extension ≡ false) }
     {
         Ok(Machine {
             memory: OverlayMemory::new(alloc, frames)?,
             processes: ByNumber::new(alloc),
             running: AscendingNumbers::new(alloc),
-            lines: DecodedLines::new(alloc)?,
+            extension: false,
+            base_lines: DecodedLines::new(alloc)?,
+            extension_lines: DecodedLines::new(alloc)?,
         })
+    }
+
+    /// Has extension M (multiplication and division) from now on, or has it not: without it, as at the start, its words are no
+    /// instructions. Nothing else changes. Takes no memory.
+    pub fn set_extension(&mut self, on: bool)
+        ensures set { self.new ≡ with_extension_at self.old on }
+        ensures after { wholes self.new ≡ with_extension on (wholes self.old) }
+        ensures stands { LeadsTo (with_extension on) self.old self.new }
+    {
+        self.extension = on;
     }
 
     /// Makes space `p` and process `p`, from 1 to 32767, of the file that `image` was read from: running, at its entry. Pages that
@@ -238,11 +255,41 @@ impl Machine {
         ensures others { StaysBut p self.old self.new }
         ensures places { KeepsPlaces self.old self.new }
     {
+        if self.extension {
+            return self.execute_extended(p, most, stops);
+        }
         execute_turns(
             &mut self.processes,
             &mut self.memory,
             &mut self.running,
-            &mut self.lines,
+            &mut self.base_lines,
+            p,
+            most,
+            stops,
+        )
+    }
+
+    // Apart, so that the loop over instructions of RV64I is compiled as it would be alone.
+    /// As `execute_up_to`, where extension M is there.
+    #[inline(never)]
+    fn execute_extended(&mut self, p: u16, most: u32, stops: Option<&Addresses>) -> (u32, Outcome)
+        requires extension { self.old.extension ≡ true }
+        requires runs { is_running (wholes self.old) p ≡ true }
+        requires there { has_space self.old p ≡ true }
+        requires none_awaits { NoneAwaits (spaces_of self.old) p }
+        ensures counts { AnswersAs (λ state. steps_to (stops_in stops.entry) most state p) self.old result.0 }
+        ensures answers { AnswersAs (λ state. came_to_last (stops_in stops.entry) most state p)
+            self.old result.1 }
+        ensures stands { LeadsTo (λ state. after_executions (stops_in stops.entry) most state p)
+            self.old self.new }
+        ensures others { StaysBut p self.old self.new }
+        ensures places { KeepsPlaces self.old self.new }
+    {
+        execute_turns(
+            &mut self.processes,
+            &mut self.memory,
+            &mut self.running,
+            &mut self.extension_lines,
             p,
             most,
             stops,

@@ -1,9 +1,11 @@
-//! Stretches of instructions of one process.
+//! Stretches of instructions of one process. What words mean goes by whether extension M is there, which is a constant here: all of this is
+//! compiled once for each.
 
 ghost use Rattle.std.specs.Prelude.{◌≡◌, ◌≢◌, ℕ, ◌+◌, ◌%◌, ◌^◌, ◌<◌, ◌≤◌, [], true};
 ghost use Rattle.std.specs.FinSet.{contains};
 ghost use Rattle.rv_decode.specs.declared.instruction.Instr.{Instr};
-ghost use Rattle.rv_execute.specs.Execution.{Executed, execution, full_in};
+ghost use Rattle.rv_execute.specs.Execution.{Executed, execution_by, full_in};
+ghost use Rattle.rv_mul.specs.Tables.{table_of};
 ghost use Rattle.overlay_pages.specs.State.{memory_of};
 ghost use Rattle.overlay_memory.specs.View.{NoneAwaits, state_of};
 ghost use Rattle.space_maps.specs.Spaces.{holds_space};
@@ -23,7 +25,8 @@ use decoded_lines::DecodedLines;
 use overlay_memory::OverlayMemory;
 use ovl_io::{FaultKind, ProcessState};
 use rv_decode::Instr;
-use rv_execute::{Outcome, Regs, action_on, execute, perform};
+use rv_execute::{Outcome, Regs, perform};
+use rv_mul::Instructions;
 
 /// What follows an instruction of which that came: the next word of the line only where it was a step.
 #[inline(always)]
@@ -38,17 +41,21 @@ fn course_behind(outcome: Outcome, course: Course) -> Course
     }
 }
 
-/// As `execute`, of a word that stands decoded. Its fetch is still to be counted.
+/// As `Instructions::execute`, of a word that stands decoded. Its fetch is still to be counted.
 #[inline]
-fn execute_decoded(regs: &mut Regs, view: &mut View, word: &Option<Instr>) -> (Outcome, Course)
+fn execute_decoded<const EXTENSION: bool>(
+    regs: &mut Regs,
+    view: &mut View,
+    word: &Option<Instr>,
+) -> (Outcome, Course)
     requires ready { IsReadyView view.old }
-    requires word { IsWordAt view.old regs.old.pc word.now }
+    requires word { IsWordAt EXTENSION view.old regs.old.pc word.now }
     ensures ready { IsReadyView view.new }
-    ensures done { Executed execution
+    ensures done { Executed (execution_by (table_of EXTENSION))
         regs.old (memory_of (spaces_lent view.old) view.old.space)
         regs.new (memory_of (spaces_lent view.new) view.new.space) result.0 }
     ensures made { (n : ℕ) → Makes n (n + 1) regs.old.pc
-        (execution regs.old (memory_of (spaces_lent view.old) view.old.space)).calls
+        (execution_by (table_of EXTENSION) regs.old (memory_of (spaces_lent view.old) view.old.space)).calls
         view.old (full_in result.0) view.new }
     ensures line { result.0 ≡ Outcome.Stepped
         → Keeps result.1 view.old view.new regs.old.pc regs.new.pc }
@@ -57,7 +64,7 @@ fn execute_decoded(regs: &mut Regs, view: &mut View, word: &Option<Instr>) -> (O
     let pc = regs.pc();
     match word {
         Some(i) => {
-            let action = action_on(i, regs);
+            let action = Instructions::<EXTENSION>::action_on(i, regs);
             let course = course_of(&action, pc);
             let outcome = perform(action, i.rd, regs, view);
             (outcome, course_behind(outcome, course))
@@ -82,10 +89,14 @@ fn note(process: &mut Process, outcome: Outcome)
 
 /// Executes the instruction at pc, whose word stands decoded, in the space that is lent, which is there. Its fetch is still to be counted.
 #[inline]
-fn execute_word(process: &mut Process, view: &mut View, word: &Option<Instr>) -> (Outcome, Course)
+fn execute_word<const EXTENSION: bool>(
+    process: &mut Process,
+    view: &mut View,
+    word: &Option<Instr>,
+) -> (Outcome, Course)
     requires runs { process.old.state ≡ ProcessState.Running }
     requires ready { IsReadyView view.old }
-    requires word { IsWordAt view.old process.old.regs.pc word.now }
+    requires word { IsWordAt EXTENSION view.old process.old.regs.pc word.now }
     ensures ready { IsReadyView view.new }
     ensures line { result.0 ≡ Outcome.Stepped
         → Keeps result.1 view.old view.new process.old.regs.pc process.new.regs.pc }
@@ -93,13 +104,13 @@ fn execute_word(process: &mut Process, view: &mut View, word: &Option<Instr>) ->
     ensures loan { view.new.memory.ghost_name ≡ view.old.memory.ghost_name }
     ensures space { view.new.space ≡ view.old.space }
     ensures outcome { (n : ℕ) → result.0
-        ≡ outcome_of view.old.space (guest_ahead n (guest_lent view.old process.old)) }
-    ensures after { (n : ℕ) → AreLikeGuests (guest_ahead (n + 1) (guest_lent view.new process.new))
-        (executed view.old.space (guest_ahead n (guest_lent view.old process.old))) }
+        ≡ outcome_of view.old.space (guest_ahead n (guest_lent EXTENSION view.old process.old)) }
+    ensures after { (n : ℕ) → AreLikeGuests (guest_ahead (n + 1) (guest_lent EXTENSION view.new process.new))
+        (executed view.old.space (guest_ahead n (guest_lent EXTENSION view.old process.old))) }
     ensures saved { process.new.saved ≡ process.old.saved }
     ensures beside { IsBeside view.old.space (spaces_lent view.old) (spaces_lent view.new) }
 {
-    let (outcome, course) = execute_decoded(&mut process.regs, view, word);
+    let (outcome, course) = execute_decoded::<EXTENSION>(&mut process.regs, view, word);
     note(process, outcome);
     (outcome, course)
 }
@@ -108,14 +119,19 @@ fn execute_word(process: &mut Process, view: &mut View, word: &Option<Instr>) ->
 /// a step, as 0 or 1, and writes down what came of it.
 #[cold]
 #[inline(never)]
-fn execute_apart(process: &mut Process, view: &mut View, hand: &mut Hand, came: &mut Outcome) -> u32
+fn execute_apart<const EXTENSION: bool>(
+    process: &mut Process,
+    view: &mut View,
+    hand: &mut Hand,
+    came: &mut Outcome,
+) -> u32
     requires runs { process.old.state ≡ ProcessState.Running }
     requires ready { IsReadyView view.old }
     ensures loan { view.new.memory.ghost_name ≡ view.old.memory.ghost_name }
     ensures space { view.new.space ≡ view.old.space }
     ensures came { (stops : Addresses) (most : ℕ) → 0 < most → Comes stops view.old.space most
-        (guest_ahead hand.old.owed (guest_lent view.old process.old)) result came.new
-        (guest_ahead hand.new.owed (guest_lent view.new process.new)) }
+        (guest_ahead hand.old.owed (guest_lent EXTENSION view.old process.old)) result came.new
+        (guest_ahead hand.new.owed (guest_lent EXTENSION view.new process.new)) }
     ensures none { hand.new.known ≡ [] }
     ensures owed { hand.new.owed ≡ hand.old.owed }
     ensures steps { result ≡ steps_in came.new }
@@ -124,7 +140,7 @@ fn execute_apart(process: &mut Process, view: &mut View, hand: &mut Hand, came: 
     ensures saved { process.new.saved ≡ process.old.saved }
     ensures beside { IsBeside view.old.space (spaces_lent view.old) (spaces_lent view.new) }
 {
-    let outcome = execute(&mut process.regs, view);
+    let outcome = Instructions::<EXTENSION>::execute(&mut process.regs, view);
     hand.lose();
     note(process, outcome);
     *came = outcome;
@@ -192,10 +208,10 @@ fn count_from(stops: Option<&Addresses>, pc: u64, most: u32) -> u32
 /// a step and leaves the line in hand. Answers how many were steps, and what came of the last one. The last step may leave the pc
 /// at a stop, and no other one does. Fetches are still to be counted, one for each.
 #[inline]
-fn run(
+fn run<const EXTENSION: bool>(
     process: &mut Process,
     view: &mut View,
-    lines: &DecodedLines,
+    lines: &DecodedLines<Instructions<EXTENSION>>,
     hand: &mut Hand,
     most: u32,
     stops: Option<&Addresses>,
@@ -209,8 +225,8 @@ fn run(
     ensures loan { view.new.memory.ghost_name ≡ view.old.memory.ghost_name }
     ensures space { view.new.space ≡ view.old.space }
     ensures came { Comes (stops_in stops.entry) view.old.space most
-        (guest_ahead hand.old.owed (guest_lent view.old process.old)) result.0 result.1
-        (guest_ahead hand.new.owed (guest_lent view.new process.new)) }
+        (guest_ahead hand.old.owed (guest_lent EXTENSION view.old process.old)) result.0 result.1
+        (guest_ahead hand.new.owed (guest_lent EXTENSION view.new process.new)) }
     ensures running { result.1 ≡ Outcome.Stepped → process.new.state ≡ ProcessState.Running }
     ensures goes { result.1 ≡ Outcome.Stepped
         → HoldsOn lines.now view.new hand.old.owed result.0 hand.new }
@@ -222,7 +238,7 @@ fn run(
     let count = count_from(stops, pc, most.min(words.len() as u32));
     let mut rest = &words[..count as usize];
     'running: while !rest.is_empty() {
-        let (outcome, course) = execute_word(process, view, &rest[0]);
+        let (outcome, course) = execute_word::<EXTENSION>(process, view, &rest[0]);
         if !is_on(course) {
             let steps = leave(hand, count - rest.len() as u32, outcome, course);
             return (steps, outcome);
@@ -236,10 +252,10 @@ fn run(
 /// Executes some instructions, at most so many, as `run` does, where the line of the first one is in hand or can be taken, and else one. Answers how
 /// many were steps, and writes down what came of the last one, where it was none.
 #[inline]
-fn advance(
+fn advance<const EXTENSION: bool>(
     process: &mut Process,
     view: &mut View,
-    lines: &mut DecodedLines,
+    lines: &mut DecodedLines<Instructions<EXTENSION>>,
     hand: &mut Hand,
     most: u32,
     stops: Option<&Addresses>,
@@ -254,8 +270,8 @@ fn advance(
     ensures loan { view.new.memory.ghost_name ≡ view.old.memory.ghost_name }
     ensures space { view.new.space ≡ view.old.space }
     ensures came { Comes (stops_in stops.entry) view.old.space most
-        (guest_ahead hand.old.owed (guest_lent view.old process.old)) result came.new
-        (guest_ahead hand.new.owed (guest_lent view.new process.new)) }
+        (guest_ahead hand.old.owed (guest_lent EXTENSION view.old process.old)) result came.new
+        (guest_ahead hand.new.owed (guest_lent EXTENSION view.new process.new)) }
     ensures running { came.new ≡ Outcome.Stepped → process.new.state ≡ ProcessState.Running }
     ensures goes { came.new ≡ Outcome.Stepped
         → HoldsOn lines.new view.new hand.old.owed result hand.new }
@@ -263,7 +279,7 @@ fn advance(
     ensures beside { IsBeside view.old.space (spaces_lent view.old) (spaces_lent view.new) }
 {
     if !hand.reach(&*view.memory, view.space, lines, process.regs.pc()) {
-        return execute_apart(process, view, hand, came);
+        return execute_apart::<EXTENSION>(process, view, hand, came);
     }
     let (n, outcome) = run(process, view, lines, hand, most, stops);
     match outcome {
@@ -287,10 +303,10 @@ fn is_stop(stops: Option<&Addresses>, address: u64) -> bool
 /// Executes up to so many instructions in the space that is lent, which is there, as long as each is a step and leaves the pc
 /// at no stop. Answers how many were steps, and what came of the last one. Fetches are still to be counted, at most one for each.
 #[inline]
-fn step_owing(
+fn step_owing<const EXTENSION: bool>(
     process: &mut Process,
     view: &mut View,
-    lines: &mut DecodedLines,
+    lines: &mut DecodedLines<Instructions<EXTENSION>>,
     hand: &mut Hand,
     most: u32,
     stops: Option<&Addresses>,
@@ -302,8 +318,8 @@ fn step_owing(
     ensures loan { view.new.memory.ghost_name ≡ view.old.memory.ghost_name }
     ensures space { view.new.space ≡ view.old.space }
     ensures ends { EndsWith (executions (stops_in stops.entry) view.old.space most
-        (guest_lent view.old process.old))
-        result.0 result.1 (guest_ahead hand.new.owed (guest_lent view.new process.new)) }
+        (guest_lent EXTENSION view.old process.old))
+        result.0 result.1 (guest_ahead hand.new.owed (guest_lent EXTENSION view.new process.new)) }
     ensures saved { process.new.saved ≡ process.old.saved }
     ensures beside { IsBeside view.old.space (spaces_lent view.old) (spaces_lent view.new) }
 {
@@ -327,10 +343,10 @@ fn step_owing(
 /// Executes up to so many instructions in space `p`, which is there, as long as each is a step and leaves the pc at no stop.
 /// Answers how many were steps, and what came of the last one.
 #[inline]
-pub(crate) fn execute_up_to(
+pub(crate) fn execute_up_to<const EXTENSION: bool>(
     process: &mut Process,
     memory: &mut OverlayMemory,
-    lines: &mut DecodedLines,
+    lines: &mut DecodedLines<Instructions<EXTENSION>>,
     p: u16,
     most: u32,
     stops: Option<&Addresses>,
@@ -338,8 +354,8 @@ pub(crate) fn execute_up_to(
     requires runs { process.old.state ≡ ProcessState.Running }
     requires there { holds_space (state_of memory.old) p ≡ true }
     requires none_awaits { NoneAwaits (state_of memory.old) p }
-    ensures ends { EndsWith (executions (stops_in stops.entry) p most (guest_in p memory.old process.old))
-        result.0 result.1 (guest_in p memory.new process.new) }
+    ensures ends { EndsWith (executions (stops_in stops.entry) p most (guest_in EXTENSION p memory.old process.old))
+        result.0 result.1 (guest_in EXTENSION p memory.new process.new) }
     ensures saved { process.new.saved ≡ process.old.saved }
     ensures beside { IsBeside p (state_of memory.old) (state_of memory.new) }
 {

@@ -114,6 +114,41 @@ fn a_load_that_needs_too_many_units_is_full(rt: HostRuntime) -> Result<(), Fail>
     Ok(())
 }
 
+// addi x10, x0, 6; addi x11, x0, 7; mul x10, x10, x11; addi x17, x0, 93; ecall
+const MULTIPLIES: &[u32] = &[
+    0x0060_0513,
+    0x0070_0593,
+    0x02B5_0533,
+    0x05D0_0893,
+    0x0000_0073,
+];
+
+// What the third instruction of a file comes to, which is a word of extension M.
+fn third_turn(rt: &impl Abort, alloc: Global, extension: bool) -> Result<(Machine, Turn), Fail>
+    ensures { IfOk result (λ made. NoneAwaits (spaces_of made.0) 1) }
+{
+    let file = file_of(alloc, 5, MULTIPLIES, 0)?;
+    let (mut machine, _) = loaded(rt, alloc, 1024, file.as_slice())?;
+    machine.set_extension(extension);
+    event(rt, &mut machine);
+    event(rt, &mut machine);
+    let turn = event(rt, &mut machine);
+    Ok((machine, turn))
+}
+
+#[test]
+fn a_word_of_extension_m_is_an_instruction_where_that_is_there(
+    rt: HostRuntime,
+) -> Result<(), Fail> {
+    let (_, turn) = third_turn(&rt, rt.alloc(), false)?;
+    assert!(rt; matches!(turn, Turn::Faulted(FaultKind::Illegal, 0x10080)));
+    let (mut machine, turn) = third_turn(&rt, rt.alloc(), true)?;
+    assert!(rt; matches!(turn, Turn::Stepped));
+    assert!(rt; matches!(event(&rt, &mut machine), Turn::Stepped));
+    assert!(rt; matches!(event(&rt, &mut machine), Turn::Exited(42)));
+    Ok(())
+}
+
 // lui x5, 0x12; addi x6, x0, -1; sd x6, -4(x5), of which the last 4 bytes lie in a page that isn't there
 const CROSSES: &[u32] = &[0x0001_22B7, 0xFFF0_0313, 0xFE62_BE23];
 

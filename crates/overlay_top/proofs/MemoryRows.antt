@@ -1,4 +1,4 @@
-use Rattle.std.proofs.Common.{◌≡◌, ℕ, zero, suc, ◌+◌, ◌-◌, ◌/◌, ◌<◌, ◌≤◌, List, [], ◌++◌, ap, sym, ◌∙◌, refl, arith, Option, Some, None, Result, Ok}
+use Rattle.std.proofs.Common.{◌≡◌, ℕ, zero, suc, ◌+◌, ◌-◌, ◌/◌, ◌<◌, ◌≤◌, Bool, List, [], ◌++◌, ap, sym, ◌∙◌, refl, arith, Option, Some, None, Result, Ok}
 use Rattle.std.specs.Prelude.{min}
 use Rattle.ovl_io.specs.Memory.{Memory, bytes_at, first_denied}
 use Rattle.ovl_io.specs.MemoryLaws.{denied_back, denied_front}
@@ -87,13 +87,13 @@ no_rows memory at left none = none_dumped memory ((left + (ROW_BYTES - 1)) / ROW
 
 -- Lines of words: one, and those behind it.
 
-pub next_word : (memory : Memory) (at left : ℕ) (line : List ℕ) → 0 < left → line ≡ disasm_row memory at
-    → disasm_text memory at left ≡ line ++ disasm_text memory (at + WORD_BYTES) (left - 1)
+pub next_word : (extension : Bool) (memory : Memory) (at left : ℕ) (line : List ℕ) → 0 < left → line ≡ disasm_row extension memory at
+    → disasm_text extension memory at left ≡ line ++ disasm_text extension memory (at + WORD_BYTES) (left - 1)
 unfolding disasm_text
-next_word memory at left line some says =
+next_word extension memory at left line some says =
     let more : left ≡ suc (left - 1) = omega (arith, some) in
-    ap (disasm_text memory at) more ∙ sym (ap (λ bs. bs ++ disasm_text memory (at + WORD_BYTES) (left - 1)) says)
+    ap (disasm_text extension memory at) more ∙ sym (ap (λ bs. bs ++ disasm_text extension memory (at + WORD_BYTES) (left - 1)) says)
 
-pub no_words : (memory : Memory) (at left : ℕ) → left ≤ 0 → disasm_text memory at left ≡ []
+pub no_words : (extension : Bool) (memory : Memory) (at left : ℕ) → left ≤ 0 → disasm_text extension memory at left ≡ []
 unfolding disasm_text
-no_words memory at left none = let zero_left : left ≡ 0 = omega (arith, none) in ap (disasm_text memory at) zero_left
+no_words extension memory at left none = let zero_left : left ≡ 0 = omega (arith, none) in ap (disasm_text extension memory at) zero_left

@@ -1,4 +1,4 @@
-use Rattle.std.proofs.Common.{◌≡◌, ◌∙◌, ◌⊎◌, inl, inr, ℕ, true, false, List, [], ◌∷◌, Option, Ok, Err, ap, codes, refl, rules, sym, subst}
+use Rattle.std.proofs.Common.{◌≡◌, ◌∙◌, ◌⊎◌, inl, inr, ℕ, Bool, true, false, List, [], ◌∷◌, Option, Ok, Err, ap, codes, refl, rules, sym, subst}
 use Rattle.sizes.specs.declared.TheConstants.{MOST_FRAMES}
 use Rattle.clap.specs.Kinds.{IsAmong, Kinds}
 use Rattle.clap.specs.Walk.{Text, is_empty}
@@ -11,7 +11,7 @@ use Rattle.clap.proofs.OnLiterals.{clap_on_literals}
 use Rattle.overlay_top.specs.declared.words.TheConstants.{FRAMES, QUANTUM, MOST_QUANTUM}
 use Rattle.overlay_top.specs.declared.words.WordsError.{WordsError}
 use Rattle.overlay_top.specs.declared.words.WordsError.TheVariants.{Refused, Memory}
-use Rattle.overlay_top.specs.Words.{MatchesWords, ReadsWords, command_line, option_number, words_refusal, seed_of, settings_from, settings_in, settings_of}
+use Rattle.overlay_top.specs.Words.{MatchesWords, ReadsWords, command_line, is_set, option_number, words_refusal, seed_of, settings_from, settings_in, settings_of}
 
 -- The command is one of which `clap` says everything.
 
@@ -54,20 +54,23 @@ set_by words matches found = rw found.0 (ap settings_in (sym found.1))
 
 -- What the options set, by the values that were looked up.
 
-pub values_set : (matches : ArgMatches) (first second third : Option Text) (frames quantum : Option ℕ) (seed : Option (Option ℕ))
+pub values_set : (matches : ArgMatches) (first second third fourth : Option Text) (frames quantum : Option ℕ) (seed : Option (Option ℕ)) (extension : Bool)
     → first ≡ first_value (found_of matches) (codes "frames") → second ≡ first_value (found_of matches) (codes "quantum")
-    → third ≡ first_value (found_of matches) (codes "make")
+    → third ≡ first_value (found_of matches) (codes "make") → fourth ≡ first_value (found_of matches) (codes "m")
     → frames ≡ option_number FRAMES MOST_FRAMES first → quantum ≡ option_number QUANTUM MOST_QUANTUM second → seed ≡ seed_of third
-    → settings_from frames quantum seed ≡ settings_in (rows_of (found_of matches))
-values_set matches first second third frames quantum seed is_first is_second is_third is_frames is_quantum is_seed =
+    → extension ≡ is_set fourth → settings_from frames quantum seed extension ≡ settings_in (rows_of (found_of matches))
+values_set matches first second third fourth frames quantum seed extension is_first is_second is_third is_fourth is_frames is_quantum is_seed is_extension =
     let row = first_value-rows (found_of matches) in
     let wide : Option ℕ = option_number FRAMES MOST_FRAMES (first_of (codes "frames") (rows_of (found_of matches))) in
     let long : Option ℕ = option_number QUANTUM MOST_QUANTUM (first_of (codes "quantum") (rows_of (found_of matches))) in
-    ap (λ f. settings_from f quantum seed) (is_frames ∙ ap (option_number FRAMES MOST_FRAMES) (is_first ∙ row (codes "frames")))
-    ∙ ap (λ q. settings_from wide q seed) (is_quantum ∙ ap (option_number QUANTUM MOST_QUANTUM) (is_second ∙ row (codes "quantum")))
-    ∙ ap (settings_from wide long) (is_seed ∙ ap seed_of (is_third ∙ row (codes "make")))
+    let seeds : Option (Option ℕ) = seed_of (first_of (codes "make") (rows_of (found_of matches))) in
+    ap (λ f. settings_from f quantum seed extension) (is_frames ∙ ap (option_number FRAMES MOST_FRAMES) (is_first ∙ row (codes "frames")))
+    ∙ ap (λ q. settings_from wide q seed extension) (is_quantum ∙ ap (option_number QUANTUM MOST_QUANTUM) (is_second ∙ row (codes "quantum")))
+    ∙ ap (λ s. settings_from wide long s extension) (is_seed ∙ ap seed_of (is_third ∙ row (codes "make")))
+    ∙ ap (settings_from wide long seeds) (is_extension ∙ ap is_set (is_fourth ∙ row (codes "m")))
 
-pub set_by_parts : {frames frames_is quantum quantum_is : Option ℕ} {seed seed_is : Option (Option ℕ)} → frames ≡ frames_is → quantum ≡ quantum_is → seed ≡ seed_is
-    → settings_from frames quantum seed ≡ settings_from frames_is quantum_is seed_is
-set_by_parts {frames_is = frames_is} {quantum = quantum} {quantum_is = quantum_is} {seed = seed} frames_are quantum_are seed_are =
-    ap (λ f. settings_from f quantum seed) frames_are ∙ ap (λ q. settings_from frames_is q seed) quantum_are ∙ ap (settings_from frames_is quantum_is) seed_are
+pub set_by_parts : (extension : Bool) {frames frames_is quantum quantum_is : Option ℕ} {seed seed_is : Option (Option ℕ)} → frames ≡ frames_is → quantum ≡ quantum_is → seed ≡ seed_is
+    → settings_from frames quantum seed extension ≡ settings_from frames_is quantum_is seed_is extension
+set_by_parts extension {frames_is = frames_is} {quantum = quantum} {quantum_is = quantum_is} {seed = seed} frames_are quantum_are seed_are =
+    ap (λ f. settings_from f quantum seed extension) frames_are ∙ ap (λ q. settings_from frames_is q seed extension) quantum_are
+    ∙ ap (λ s. settings_from frames_is quantum_is s extension) seed_are

@@ -1,4 +1,4 @@
-use Rattle.std.specs.Prelude.{◌≡◌, ℕ, ◌+◌, ◌*◌, ◌<◌, ◌≤◌, List, ◌++◌, Option, Some, None, Ok}
+use Rattle.std.specs.Prelude.{◌≡◌, ℕ, ◌+◌, ◌*◌, ◌<◌, ◌≤◌, Bool, List, ◌++◌, Option, Some, None, Ok}
 use Rattle.std.specs.FinMap.{empty, get}
 use Rattle.sizes.specs.declared.TheConstants.{ADDRESS_END}
 use Rattle.ovl_io.specs.Memory.{Memory}
@@ -35,9 +35,9 @@ SeesBytes p address n state = Sees (get state.wholes.processes p) address n
 abbrev pub SeesWords : ℕ → ℕ → ℕ → State → Type 0
 SeesWords p address words state = SeesBytes p address (WORD_BYTES * words) state
 
--- the lines of bytes of a process, and of words
+-- the lines of bytes of a process, and of words, with extension M or without
 abbrev pub bytes_dumped : ℕ → ℕ → ℕ → State → List ℕ
 bytes_dumped p address count state = dump_text (memory_in p state) address count
 
-abbrev pub words_text : ℕ → ℕ → ℕ → State → List ℕ
-words_text p address words state = disasm_text (memory_in p state) address words
+abbrev pub words_text : Bool → ℕ → ℕ → ℕ → State → List ℕ
+words_text extension p address words state = disasm_text extension (memory_in p state) address words

@@ -14,7 +14,7 @@ use Rattle.overlay_top.specs.Ends.{EndsWith, World}
 -- ledger, no frames and no limit. The lines of the commands that are told by the ledger (`stats`) are given.
 
 abbrev pub run_unbounded : List (List ℕ) → Settings → List Command → (List ℕ → Option (List ℕ)) → RunOutcome
-run_unbounded counts settings commands files = run_by unbounded (modes_of settings) commands (fresh_unbounded counts) files
+run_unbounded counts settings commands files = run_by unbounded (modes_of settings) commands (fresh_unbounded settings.extension counts) files
 
 abbrev pub unbounded_set : List (List ℕ) → Option Settings → List ℕ → (List ℕ → Option (List ℕ)) → RunOutcome
 unbounded_set counts set script files = set_by (run_unbounded counts) set script files

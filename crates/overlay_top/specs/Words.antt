@@ -1,5 +1,6 @@
-use Rattle.std.specs.Prelude.{◌≡◌, ℕ, ◌-◌, ◌^◌, ◌≤◌, true, false, List, [], Option, Some, None, option_map, Result, Ok, Err, codes, if◌then◌else◌}
+use Rattle.std.specs.Prelude.{◌≡◌, ℕ, ◌-◌, ◌^◌, ◌≤◌, Bool, true, false, List, [], Option, Some, None, option_map, Result, Ok, Err, codes, if◌then◌else◌}
 use Rattle.sizes.specs.declared.TheConstants.{MOST_FRAMES}
+use Rattle.std.specs.Str.{bytes_eq}
 use Rattle.std.specs.Str.Parse.{digits_value, without_leading_plus}
 use Rattle.clap.specs.Words.{App, Row, Rule, Text, fault_of, first_of, found_of, matches_of, new_app, new_rule, rows_of, with_rule}
 use Rattle.clap.specs.Simple.{on_top}
@@ -8,20 +9,24 @@ use Rattle.clap.specs.declared.error.kind.ErrorKind.{ErrorKind}
 use Rattle.clap.specs.declared.error.kind.ErrorKind.TheVariants.{OutOfMemory}
 use Rattle.clap.specs.declared.parser.matches.ArgMatches.{ArgMatches}
 use Rattle.clap.specs.ValueTests.{is_unsigned_in}
-use Rattle.clap.specs.declared.builder.action.ArgAction.TheVariants.{Set}
+use Rattle.clap.specs.declared.builder.action.ArgAction.TheVariants.{Set, SetTrue}
 use Rattle.overlay_top.specs.declared.words.Settings.{Settings}
 use Rattle.overlay_top.specs.declared.words.TheConstants.{FRAMES, QUANTUM, MOST_QUANTUM}
 use Rattle.overlay_top.specs.declared.words.WordsError.{WordsError}
 use Rattle.overlay_top.specs.declared.words.WordsError.TheVariants.{Refused, Memory}
 
--- The command, as `clap` describes it: three options with a value each, and nothing else; its name isn't among the words.
+-- The command, as `clap` describes it: three options with a value each, a flag without one, and nothing else; its name isn't among the
+-- words.
 abbrev pub option_of : Text → Rule
 option_of name = record (new_rule name) { long = Some name; action = Some Set }
 
+abbrev pub flag_of : Text → Rule
+flag_of name = record (new_rule name) { long = Some name; action = Some SetTrue }
+
 unfoldable pub command_line : App
 command_line =
-    with_rule (with_rule (with_rule (on_top (λ shape. record shape { no_binary_name = true; disable_help_flag = true }) (new_app (codes "overlay-run")))
-    (option_of (codes "frames"))) (option_of (codes "quantum"))) (option_of (codes "make"))
+    with_rule (with_rule (with_rule (with_rule (on_top (λ shape. record shape { no_binary_name = true; disable_help_flag = true }) (new_app (codes "overlay-run")))
+    (option_of (codes "frames"))) (option_of (codes "quantum"))) (option_of (codes "make"))) (flag_of (codes "m"))
 
 -- The number of a text within a range, as Rust's `parse` reads one.
 abbrev pub parsed_in : ℕ → ℕ → Text → Option ℕ
@@ -37,17 +42,23 @@ abbrev pub seed_of : Option Text → Option (Option ℕ)
 seed_of None = Some None
 seed_of (Some text) = option_map Some (parsed_in 0 (2 ^ 64 - 1) text)
 
-abbrev pub settings_from : Option ℕ → Option ℕ → Option (Option ℕ) → Option Settings
-settings_from (Some frames) (Some quantum) (Some seed) = Some (record { frames = frames; quantum = quantum; seed = seed })
-settings_from (Some frames) (Some quantum) None = None
-settings_from (Some frames) None seed = None
-settings_from None quantum seed = None
+-- whether a flag is given: its value is a text, which is `false` where it isn't
+abbrev pub is_set : Option Text → Bool
+is_set None = false
+is_set (Some text) = bytes_eq text (codes "true")
+
+abbrev pub settings_from : Option ℕ → Option ℕ → Option (Option ℕ) → Bool → Option Settings
+settings_from (Some frames) (Some quantum) (Some seed) extension =
+    Some (record { frames = frames; quantum = quantum; seed = seed; extension = extension })
+settings_from (Some frames) (Some quantum) None extension = None
+settings_from (Some frames) None seed extension = None
+settings_from None quantum seed extension = None
 
 -- What the options set, by the values that `clap` found.
 abbrev pub settings_in : List Row → Option Settings
 settings_in rows =
     settings_from (option_number FRAMES MOST_FRAMES (first_of (codes "frames") rows)) (option_number QUANTUM MOST_QUANTUM (first_of (codes "quantum") rows))
-    (seed_of (first_of (codes "make") rows))
+    (seed_of (first_of (codes "make") rows)) (is_set (first_of (codes "m") rows))
 
 -- What words set, where they are the command's.
 unfoldable pub settings_of : List Text → Option Settings

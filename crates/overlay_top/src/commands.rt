@@ -345,7 +345,7 @@ fn disasm<K: Sink>(
 ) -> Result<(), Failed>
     requires { words ≤ MOST_WORDS }
     ensures sends { SendsText K.Sink report.old.sink.now
-        (disasm_done rules p address words session.now.state).text report.new.sink.now result }
+        (disasm_done rules session.now.modes.extension p address words session.now.state).text report.new.sink.now result }
     ensures same { report.new.sink.ghost_name ≡ report.old.sink.ghost_name }
 {
     match session.can_read(p, address, WORD_BYTES as u32 * words) {

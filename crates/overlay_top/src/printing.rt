@@ -3,7 +3,8 @@
 ghost use Rattle.std.specs.Prelude.{◌≡◌, ◌≤◌};
 ghost use Rattle.ovl_io.specs.Memory.{bytes_at};
 ghost use Rattle.report_text.specs.declared.TheConstants.{ROW_BYTES};
-ghost use Rattle.report_text.specs.Lines.{dump_line};
+ghost use Rattle.report_text.specs.Lines.{disasm_line_by, dump_line};
+ghost use Rattle.rv_mul.specs.Tables.{table_of};
 ghost use Rattle.command_core.specs.declared.TheConstants.{WORD_BYTES};
 ghost use Rattle.command_core.specs.Commands.{disasm_row};
 ghost use Rattle.overlay_top.specs.Sending.{SendsText};
@@ -13,7 +14,7 @@ use crate::sending::Report;
 use byteorder::{ByteOrder, LittleEndian};
 use command_core::{Session, WORD_BYTES};
 use ovl_io::{Failed, Sink};
-use report_text::{Line, ROW_BYTES, disasm_line, dump_line};
+use report_text::{Line, ROW_BYTES, disasm_line, disasm_m_line, dump_line};
 
 /// Makes the line of `n` bytes of a process from an address on; they were looked at.
 fn bytes_line(session: &Session, p: u16, address: u64, n: u32, line: &mut Line)
@@ -53,14 +54,25 @@ pub(crate) fn send_bytes<K: Sink>(
     Ok(())
 }
 
+/// Makes the line of a word at an address, as the instruction that it is in the session.
+fn instruction_line(session: &Session, address: u64, word: u32, line: &mut Line)
+    ensures { line.new.items ≡ disasm_line_by (table_of session.now.modes.extension).has address word }
+{
+    if session.has_extension() {
+        disasm_m_line(address, word, line);
+    } else {
+        disasm_line(address, word, line);
+    }
+}
+
 /// Makes the line of the word at an address of a process; its bytes were looked at.
 fn word_line(session: &Session, p: u16, address: u64, line: &mut Line)
     requires sees { SeesBytes p address WORD_BYTES session.now.state }
-    ensures { line.new.items ≡ disasm_row (memory_in p session.now.state) address }
+    ensures { line.new.items ≡ disasm_row session.now.modes.extension (memory_in p session.now.state) address }
 {
     let mut word = [0; WORD_BYTES as usize];
     match session.read(p, address, &mut word) {
-        Ok(()) => disasm_line(address, LittleEndian::read_u32(&word), line),
+        Ok(()) => instruction_line(session, address, LittleEndian::read_u32(&word), line),
         Err(_) => unreachable!(),
     }
 }
@@ -74,7 +86,8 @@ pub(crate) fn send_words<K: Sink>(
     report: &mut Report<K>,
 ) -> Result<(), Failed>
     requires sees { SeesWords p address words session.now.state }
-    ensures sends { SendsText K.Sink report.old.sink.now (words_text p address words session.now.state)
+    ensures sends { SendsText K.Sink report.old.sink.now (words_text
+        session.now.modes.extension p address words session.now.state)
         report.new.sink.now result }
     ensures same { report.new.sink.ghost_name ≡ report.old.sink.ghost_name }
 {

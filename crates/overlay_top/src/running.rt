@@ -132,6 +132,7 @@ pub(crate) fn run<H: Shelf, K: Sink>(
     ensures same { report.new.sink.ghost_name ≡ report.old.sink.ghost_name }
 {
     let mut session = Session::new(alloc, settings.frames, settings.quantum)?;
+    session.set_extension(settings.extension);
     'running: for command in commands {
         perform(alloc, &mut session, command, shelf, report)?;
     }

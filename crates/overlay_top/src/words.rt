@@ -1,6 +1,6 @@
 ghost use Rattle.std.specs.Prelude.{◌≡◌, IfOk, IfSome, false, map, option_map, string_bytes};
 ghost use Rattle.clap.specs.Words.{app_of, found_of, kind_of, rows_of, rule_of};
-ghost use Rattle.overlay_top.specs.Words.{AreInRange, IsFromOne, MatchesWords, ReadsWords, command_line, option_number, option_of, words_refusal, seed_of, settings_in};
+ghost use Rattle.overlay_top.specs.Words.{AreInRange, IsFromOne, MatchesWords, ReadsWords, command_line, flag_of, is_set, option_number, option_of, words_refusal, seed_of, settings_in};
 
 use clap::error::ErrorKind;
 use clap::{Arg, ArgAction, ArgMatches, Command, Error};
@@ -25,6 +25,8 @@ pub struct Settings {
     pub quantum: u32,
     /// What the script and its file are made of, in place of those of the outside.
     pub seed: Option<u64>,
+    /// Whether the machine has extension M: multiplication and division.
+    pub extension: bool,
 }
 
 /// Why words give no settings.
@@ -54,6 +56,14 @@ fn option<'a>(alloc: Global, name: &'a str) -> Arg<'a>
     Arg::new(alloc, name).long(name).action(ArgAction::Set)
 }
 
+/// The flag `--NAME`, which has no value.
+fn flag<'a>(alloc: Global, name: &'a str) -> Arg<'a>
+    ensures rule { rule_of result ≡ flag_of name.now }
+    ensures local { result.global ≡ false }
+{
+    Arg::new(alloc, name).long(name).action(ArgAction::SetTrue)
+}
+
 /// The command, as `clap` has it.
 fn command<'a>(alloc: Global) -> Result<Command<'a>, AllocError>
     ensures { IfOk result (λ command. app_of command ≡ command_line) }
@@ -63,7 +73,8 @@ fn command<'a>(alloc: Global) -> Result<Command<'a>, AllocError>
         .disable_help_flag(true)
         .arg(option(alloc, "frames"))?
         .arg(option(alloc, "quantum"))?
-        .arg(option(alloc, "make"))
+        .arg(option(alloc, "make"))?
+        .arg(flag(alloc, "m"))
 }
 
 /// The number of an option, from 1 on: the default where it isn't given, and none where its value is no number of the range.
@@ -91,6 +102,16 @@ fn seed_from(value: Option<&str>) -> Option<Option<u64>>
             Ok(seed) => Some(Some(seed)),
             Err(_) => None,
         },
+    }
+}
+
+/// Whether a flag is given, by the value that `clap` has for it.
+fn is_set(value: Option<&str>) -> bool
+    ensures { result ≡ is_set (option_map (λ text. text.now) value.entry) }
+{
+    match value {
+        None => false,
+        Some(text) => text == "true",
     }
 }
 
@@ -122,10 +143,12 @@ fn settings_in(matches: &ArgMatches<'_>) -> Option<Settings>
     let frames = number(matches.get_str("frames"), FRAMES, MOST_FRAMES);
     let quantum = number(matches.get_str("quantum"), QUANTUM, MOST_QUANTUM);
     let seed = seed_from(matches.get_str("make"));
+    let extension = is_set(matches.get_str("m"));
     Some(Settings {
         frames: frames?,
         quantum: quantum?,
         seed: seed?,
+        extension,
     })
 }
 

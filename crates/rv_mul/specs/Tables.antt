@@ -6,7 +6,7 @@ use Rattle.rv_decode.specs.declared.names.Name.{Name}
 use Rattle.rv_decode.specs.declared.rows.CaseRow.{CaseRow}
 use Rattle.rv_decode.specs.Meaning.{meaning_by}
 use Rattle.rv_decode.specs.Table.{is_multiplication, table_rows}
-use Rattle.rv_execute.specs.Execution.{Execution, InstructionTable, execution_by}
+use Rattle.rv_execute.specs.Execution.{Execution, InstructionTable, execution_by, rv64i}
 use Rattle.rv_execute.specs.Registers.{Registers}
 use Rattle.rv_execute.specs.Rows.{action_of}
 use Rattle.rv_execute.specs.declared.action.Action.{Action}
@@ -30,6 +30,10 @@ action_m name a b i pc = if is_multiplication name then Write (multiplied name a
 
 abbrev pub rv64im : InstructionTable
 rv64im = record { has = is_any; action = action_m }
+
+-- the table of a machine: with extension M, or without
+abbrev pub table_of : Bool → InstructionTable
+table_of extension = if extension then rv64im else rv64i
 
 -- what one instruction of all 65 rows does
 abbrev pub execution_m : Registers → Memory → Execution

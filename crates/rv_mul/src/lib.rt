@@ -11,11 +11,13 @@
 //! | `arithmetic` | products, quotients and remainders of 64 bits |
 //! | `effects` | `multiply`: what each row makes of two values, a line a row |
 //! | `execute` | `execute_m`: one instruction of all 65 rows |
+//! | `instructions` | `Instructions`: the table of RV64I or that of both, by a constant |
 #![tactic(auto)]
 
 mod arithmetic;
 mod effects;
 mod execute;
+mod instructions;
 mod table;
 #[cfg(test)]
 mod tests;
@@ -23,5 +25,6 @@ mod words;
 
 pub use effects::multiply;
 pub use execute::execute_m;
+pub use instructions::Instructions;
 pub use table::rv64m;
 pub use words::{Rv64im, decode_m, encode_m};

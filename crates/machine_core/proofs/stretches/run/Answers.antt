@@ -12,21 +12,22 @@ use Rattle.machine_core.specs.declared.hand.Course.{Course}
 use Rattle.machine_core.specs.declared.hand.Hand.{Hand}
 use Rattle.machine_core.proofs.Runs.{AreRun, begun_run, both_beside, ends, ends_running, goes_by, goes_on, next_word, page_now, rest_of, same_lines}
 use Rattle.machine_core.proofs.Stepping.{is_so_far, so_far}
+use Rattle.machine_core.proofs.Constants.{truth}
 use Rattle.machine_core.proofs.stretches.run.Goals as goal
 
 pub running-init : goal.running-init
-running-init c =
+running-init g c =
     let f = c.count_from-count.ensures.few in
     let m = c.min.ensures in
     let count = length-take-le c.count_from-count.result c.words_from-words.result.now (omega (arith, f, m)) in
     record {
-      so = begun_run (stops_in c.args.stops) c.args.lines.now c.args.view.now c.args.process.now c.args.hand.now c.args.most c.pc-pc.result _ _
+      so = begun_run (truth g.row.EXTENSION) (stops_in c.args.stops) c.args.lines.now c.args.view.now c.args.process.now c.args.hand.now c.args.most c.pc-pc.result _ _
           (omega (arith, count)) c.pc-pc.ensures c.requires.runs c.requires.ready c.requires.taken;
       within = omega (arith, count);
     }
 
 pub running-preserved : goal.running-preserved
-running-preserved c =
+running-preserved g c =
     let came = c.execute_word-outcome in
     let few_is : c.count_from-count.result ≤ c.args.most = (let f = c.count_from-count.ensures.few in let m = c.min.ensures in omega (arith, f, m)) in
     let inside_is : c.pc-pc.result / 4 % LINE_WORDS + c.count_from-count.result ≤ LINE_WORDS =
@@ -36,32 +37,32 @@ running-preserved c =
     let course = c.is_on.ensures c.if-not-is_on.false in
     let stepped = came.ensures.on course in
     let keeps = subst (λ (v : Course). Keeps v c.running.view came.new.view c.running.process.regs.pc came.new.process.regs.pc) course (came.ensures.line stepped) in
-    let goes = goes_on (stops_in c.args.stops) c.args.lines.now c.args.view.now c.running.view c.args.process.now c.running.process c.args.hand.now
+    let goes = goes_on (truth g.row.EXTENSION) (stops_in c.args.stops) c.args.lines.now c.args.view.now c.running.view c.args.process.now c.running.process c.args.hand.now
     c.running.hand c.args.most c.pc-pc.result c.count_from-count.result (take c.count_from-count.result c.words_from-words.result.now) c.running.rest.now c.running.invariant.so few_is c.running.invariant.within some_is inside_is aligned_is c.count_from-count.ensures.past came.new.view came.new.process came.result.0
     came.ensures.outcome came.ensures.after stepped came.ensures.loan came.ensures.space
     came.ensures.ready came.ensures.saved came.ensures.beside keeps (c.requires.taken.page ∙ sym (ap (λ n. n / PAGE_BYTES) c.pc-pc.ensures)) in
     let n = length-drop 1 c.running.rest.now in
     let within = c.running.invariant.within in
     subst (λ r. record {
-      so : AreRun (stops_in c.args.stops) c.args.lines.now c.args.view.now came.new.view c.args.process.now came.new.process c.args.hand.now c.running.hand c.args.most c.pc-pc.result
+      so : AreRun (truth g.row.EXTENSION) (stops_in c.args.stops) c.args.lines.now c.args.view.now came.new.view c.args.process.now came.new.process c.args.hand.now c.running.hand c.args.most c.pc-pc.result
           (take c.count_from-count.result c.words_from-words.result.now) r (c.count_from-count.result - length r);
       within : length r ≤ c.count_from-count.result;
     }) (sym (rest_of c.running.rest.now)) (record { so = goes; within = omega (arith, n, within) })
 
 pub execute_word-outcome-requires-clause-word : goal.execute_word-outcome-requires-clause-word
-execute_word-outcome-requires-clause-word c =
+execute_word-outcome-requires-clause-word g c =
     let few_is : c.count_from-count.result ≤ c.args.most = (let f = c.count_from-count.ensures.few in let m = c.min.ensures in omega (arith, f, m)) in
     let inside_is : c.pc-pc.result / 4 % LINE_WORDS + c.count_from-count.result ≤ LINE_WORDS =
     (let f = c.count_from-count.ensures.few in let m = c.min.ensures in let w = c.words_from-words.ensures.count in omega (arith, f, m, w)) in
     let aligned_is = ap (λ n. n % 4) c.pc-pc.ensures ∙ c.requires.taken.aligned in
     let some_is : 0 < length c.running.rest.now = (let test = c.running-test.true in let has = c.is_empty.ensures in grind (arith, nat_tests)) in
-    next_word (stops_in c.args.stops) c.args.lines.now c.args.view.now c.running.view c.args.process.now c.running.process c.args.hand.now
+    next_word (truth g.row.EXTENSION) (stops_in c.args.stops) c.args.lines.now c.args.view.now c.running.view c.args.process.now c.running.process c.args.hand.now
     c.running.hand c.args.most c.pc-pc.result c.count_from-count.result (take c.count_from-count.result c.words_from-words.result.now) c.running.rest.now c.running.invariant.so
     few_is c.running.invariant.within some_is inside_is aligned_is c.count_from-count.ensures.past c.words_from-words.result.now refl c.words_from-words.ensures.words
 
 -- a turn that ends the run
 pub returns-then-not-is_on-clause-came : goal.returns-then-not-is_on-clause-came
-returns-then-not-is_on-clause-came c =
+returns-then-not-is_on-clause-came g c =
     let came = c.execute_word-outcome in
     let few_is : c.count_from-count.result ≤ c.args.most = (let f = c.count_from-count.ensures.few in let m = c.min.ensures in omega (arith, f, m)) in
     let inside_is : c.pc-pc.result / 4 % LINE_WORDS + c.count_from-count.result ≤ LINE_WORDS =
@@ -71,16 +72,16 @@ returns-then-not-is_on-clause-came c =
     let k = c.count_from-count.result - length c.running.rest.now in
     let owed = c.leave-steps.ensures.owed ∙ ap (λ (h : Hand). h.owed + (k + 1)) c.running.invariant.so.kept in
     let stops = stops_in c.args.stops in
-    let first = guest_ahead c.args.hand.now.owed (guest_lent c.args.view.now c.args.process.now) in
-    subst (λ n. Comes stops c.args.view.now.space c.args.most first n came.result.0 (guest_ahead c.leave-steps.new.hand.owed (guest_lent came.new.view came.new.process)))
+    let first = guest_ahead c.args.hand.now.owed (guest_lent (truth g.row.EXTENSION) c.args.view.now c.args.process.now) in
+    subst (λ n. Comes stops c.args.view.now.space c.args.most first n came.result.0 (guest_ahead c.leave-steps.new.hand.owed (guest_lent (truth g.row.EXTENSION) came.new.view came.new.process)))
     (sym c.leave-steps.ensures.steps)
-    (subst (λ n. Comes stops c.args.view.now.space c.args.most first (k + steps_in came.result.0) came.result.0 (guest_ahead n (guest_lent came.new.view came.new.process))) (sym owed)
-    (ends (stops_in c.args.stops) c.args.lines.now c.args.view.now c.running.view c.args.process.now c.running.process c.args.hand.now
+    (subst (λ n. Comes stops c.args.view.now.space c.args.most first (k + steps_in came.result.0) came.result.0 (guest_ahead n (guest_lent (truth g.row.EXTENSION) came.new.view came.new.process))) (sym owed)
+    (ends (truth g.row.EXTENSION) (stops_in c.args.stops) c.args.lines.now c.args.view.now c.running.view c.args.process.now c.running.process c.args.hand.now
     c.running.hand c.args.most c.pc-pc.result c.count_from-count.result (take c.count_from-count.result c.words_from-words.result.now) c.running.rest.now c.running.invariant.so few_is c.running.invariant.within some_is inside_is aligned_is c.count_from-count.ensures.past came.new.view came.new.process came.result.0
     came.ensures.outcome came.ensures.after))
 
 pub returns-then-not-is_on-clause-goes : goal.returns-then-not-is_on-clause-goes
-returns-then-not-is_on-clause-goes c stepped =
+returns-then-not-is_on-clause-goes g c stepped =
     let came = c.execute_word-outcome in
     let few_is : c.count_from-count.result ≤ c.args.most = (let f = c.count_from-count.ensures.few in let m = c.min.ensures in omega (arith, f, m)) in
     let inside_is : c.pc-pc.result / 4 % LINE_WORDS + c.count_from-count.result ≤ LINE_WORDS =
@@ -95,47 +96,47 @@ returns-then-not-is_on-clause-goes c stepped =
     came.new.process.regs.pc came.ensures.ready (owed ∙ sym (ap (λ n. c.args.hand.now.owed + n) steps)) (omega (arith, steps)) came.result.1
     (subst (λ (h : Hand). IsLeft came.result.1 h c.leave-steps.new.hand) kept c.leave-steps.ensures.left)
     (came.ensures.line stepped) c.running.invariant.so.hand_is
-    (c.requires.taken.page ∙ sym (ap (λ n. n / PAGE_BYTES) c.pc-pc.ensures) ∙ page_now (stops_in c.args.stops) c.args.lines.now c.args.view.now c.running.view c.args.process.now c.running.process c.args.hand.now
+    (c.requires.taken.page ∙ sym (ap (λ n. n / PAGE_BYTES) c.pc-pc.ensures) ∙ page_now (truth g.row.EXTENSION) (stops_in c.args.stops) c.args.lines.now c.args.view.now c.running.view c.args.process.now c.running.process c.args.hand.now
     c.running.hand c.args.most c.pc-pc.result c.count_from-count.result (take c.count_from-count.result c.words_from-words.result.now) c.running.rest.now c.running.invariant.so few_is c.running.invariant.within some_is inside_is aligned_is c.count_from-count.ensures.past)
 
 pub returns-then-not-is_on-clause-running : goal.returns-then-not-is_on-clause-running
-returns-then-not-is_on-clause-running c stepped =
+returns-then-not-is_on-clause-running g c stepped =
     let came = c.execute_word-outcome in
     let few_is : c.count_from-count.result ≤ c.args.most = (let f = c.count_from-count.ensures.few in let m = c.min.ensures in omega (arith, f, m)) in
     let inside_is : c.pc-pc.result / 4 % LINE_WORDS + c.count_from-count.result ≤ LINE_WORDS =
     (let f = c.count_from-count.ensures.few in let m = c.min.ensures in let w = c.words_from-words.ensures.count in omega (arith, f, m, w)) in
     let aligned_is = ap (λ n. n % 4) c.pc-pc.ensures ∙ c.requires.taken.aligned in
     let some_is : 0 < length c.running.rest.now = (let test = c.running-test.true in let has = c.is_empty.ensures in grind (arith, nat_tests)) in
-    ends_running (stops_in c.args.stops) c.args.lines.now c.args.view.now c.running.view c.args.process.now c.running.process c.args.hand.now
+    ends_running (truth g.row.EXTENSION) (stops_in c.args.stops) c.args.lines.now c.args.view.now c.running.view c.args.process.now c.running.process c.args.hand.now
     c.running.hand c.args.most c.pc-pc.result c.count_from-count.result (take c.count_from-count.result c.words_from-words.result.now) c.running.rest.now c.running.invariant.so few_is c.running.invariant.within some_is inside_is aligned_is c.count_from-count.ensures.past came.new.view came.new.process came.result.0
     came.ensures.outcome came.ensures.after stepped
 
 pub returns-then-not-is_on-clause-beside : goal.returns-then-not-is_on-clause-beside
-returns-then-not-is_on-clause-beside c =
+returns-then-not-is_on-clause-beside g c =
     both_beside c.args.view.now.space (spaces_lent c.args.view.now) (spaces_lent c.running.view) (spaces_lent c.execute_word-outcome.new.view) c.running.invariant.so.beside
     (subst (λ p. IsBeside p (spaces_lent c.running.view) (spaces_lent c.execute_word-outcome.new.view)) c.running.invariant.so.space c.execute_word-outcome.ensures.beside)
 
 -- all of them
 pub returns-clause-came : goal.returns-clause-came
-returns-clause-came c =
+returns-clause-came g c =
     let n = c.count_from-count.result in
     let so = c.running.invariant.so in
     let stops = stops_in c.args.stops in
     let few = c.count_from-count.ensures.few in
     let m = c.min.ensures in
-    let whole = executions stops c.args.view.now.space c.args.most (guest_ahead c.args.hand.now.owed (guest_lent c.args.view.now c.args.process.now)) in
+    let whole = executions stops c.args.view.now.space c.args.most (guest_ahead c.args.hand.now.owed (guest_lent (truth g.row.EXTENSION) c.args.view.now c.args.process.now)) in
     let all : n - length c.running.rest.now ≡ n = (let test = c.running-test.false in let has = c.is_empty.ensures in grind (arith, nat_tests)) in (
       omega (arith, few, m),
-      subst (λ (h : Hand). AreLikeExecutions (after_steps n (resumed stops c.args.view.now.space (c.args.most - n) (guest_ahead (h.owed + n) (guest_lent c.running.view c.running.process))))
+      subst (λ (h : Hand). AreLikeExecutions (after_steps n (resumed stops c.args.view.now.space (c.args.most - n) (guest_ahead (h.owed + n) (guest_lent (truth g.row.EXTENSION) c.running.view c.running.process))))
           whole) (sym so.kept)
           (subst (λ e. AreLikeExecutions (after_steps n e) whole) (sym (is_so_far stops c.args.view.now.space n (c.args.most - n)
-          (guest_ahead (c.args.hand.now.owed + n) (guest_lent c.running.view c.running.process)) c.count_from-count.ensures.some))
+          (guest_ahead (c.args.hand.now.owed + n) (guest_lent (truth g.row.EXTENSION) c.running.view c.running.process)) c.count_from-count.ensures.some))
           (subst (λ k. AreLikeExecutions
-          (after_steps k (so_far k stops c.args.view.now.space (c.args.most - k) (guest_ahead (c.args.hand.now.owed + k) (guest_lent c.running.view c.running.process)))) whole) all so.all)),
+          (after_steps k (so_far k stops c.args.view.now.space (c.args.most - k) (guest_ahead (c.args.hand.now.owed + k) (guest_lent (truth g.row.EXTENSION) c.running.view c.running.process)))) whole) all so.all)),
     )
 
 pub returns-clause-goes : goal.returns-clause-goes
-returns-clause-goes c done =
+returns-clause-goes g c done =
     let n = c.count_from-count.result in
     let so = c.running.invariant.so in
     same_lines c.args.lines.now c.running.view c.running.view c.args.hand.now

@@ -7,14 +7,15 @@ use Rattle.machine_core.specs.Kept.{IsBeside, guest_lent}
 use Rattle.machine_core.proofs.Ahead.{begun}
 use Rattle.machine_core.proofs.Runs.{both_beside}
 use Rattle.machine_core.proofs.Stepping.{came_on, ends_full, goes_on}
+use Rattle.machine_core.proofs.Constants.{truth}
 use Rattle.machine_core.proofs.stretches.step_owing.Goals as goal
 
 pub stepping-init : goal.stepping-init
-stepping-init c = record {
+stepping-init g c = record {
   loan = refl;
   space = refl;
   ready = c.requires.ready;
-  all = begun (stops_in c.args.stops) c.args.view.now.space c.args.most c.args.hand.now.owed (guest_lent c.args.view.now c.args.process.now) c.requires.none;
+  all = begun (stops_in c.args.stops) c.args.view.now.space c.args.most c.args.hand.now.owed (guest_lent (truth g.row.EXTENSION) c.args.view.now c.args.process.now) c.requires.none;
   running = c.requires.runs;
   saved = refl;
   few = let none = c.requires.none in omega (arith, none);
@@ -24,16 +25,23 @@ stepping-init c = record {
   step = refl;
 }
 
+pub advance-n-requires : goal.advance-n-requires
+advance-n-requires g c =
+    let so = c.stepping.invariant in (
+      omega arith,
+      (so.running, (so.ready, (so.hand, (omega (arith, c.stepping-test.true), (so.step, omega (arith, so.few, c.stepping-test.true, c.ranges.most.fits)))))),
+    )
+
 pub stepping-preserved : goal.stepping-preserved
-stepping-preserved c =
+stepping-preserved g c =
     let S = stops_in c.args.stops in
     let p = c.args.view.now.space in
     let so = c.stepping.invariant in
     let came = c.advance-n in
     let k = c.stepping.steps in
     let n = came.result in
-    let now = guest_ahead c.stepping.hand.owed (guest_lent c.stepping.view c.stepping.process) in
-    let next = guest_ahead came.new.hand.owed (guest_lent came.new.view came.new.process) in
+    let now = guest_ahead c.stepping.hand.owed (guest_lent (truth g.row.EXTENSION) c.stepping.view c.stepping.process) in
+    let next = guest_ahead came.new.hand.owed (guest_lent (truth g.row.EXTENSION) came.new.view came.new.process) in
     let goes = came.ensures.goes c.in-Stepped.is in
     let steps = subst (λ o. Comes S p (c.args.most - k) now n o next) c.in-Stepped.is (subst (λ q. Comes S q (c.args.most - k) now n came.new.came next) so.space came.ensures.came) in
     let turn = c.stepping-test.true in
@@ -44,7 +52,7 @@ stepping-preserved c =
       loan = came.ensures.loan ∙ so.loan;
       space = came.ensures.space ∙ so.space;
       ready = goes.ready;
-      all = let whole = executions S p c.args.most (guest_lent c.args.view.now c.args.process.now) in
+      all = let whole = executions S p c.args.most (guest_lent (truth g.row.EXTENSION) c.args.view.now c.args.process.now) in
           subst (λ e. AreLikeExecutions (after_steps (k + n) e) whole)
           (goes_on S p (c.args.most - (k + n)) next (ap (contains S) (sym c.pc.ensures) ∙ sym c.is_stop.ensures ∙ c.if-is_stop.false))
           (came_on S p whole c.args.most k n now next so.all steps.1);
@@ -60,8 +68,8 @@ stepping-preserved c =
 
 -- there are as many as there may be
 pub returns-clause-ends : goal.returns-clause-ends
-returns-clause-ends c =
+returns-clause-ends g c =
     let p = c.args.view.now.space in
-    let now = guest_ahead c.stepping.hand.owed (guest_lent c.stepping.view c.stepping.process) in
-    ends_full (stops_in c.args.stops) p (executions (stops_in c.args.stops) p c.args.most (guest_lent c.args.view.now c.args.process.now)) c.args.most c.stepping.steps now
+    let now = guest_ahead c.stepping.hand.owed (guest_lent (truth g.row.EXTENSION) c.stepping.view c.stepping.process) in
+    ends_full (stops_in c.args.stops) p (executions (stops_in c.args.stops) p c.args.most (guest_lent (truth g.row.EXTENSION) c.args.view.now c.args.process.now)) c.args.most c.stepping.steps now
     (omega (arith, c.stepping-test.false)) c.stepping.invariant.all

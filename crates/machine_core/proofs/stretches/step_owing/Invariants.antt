@@ -6,17 +6,18 @@ use Rattle.machine_core.specs.Ahead.{guest_ahead}
 use Rattle.machine_core.specs.Executions.{AreLikeExecutions, after_steps, executions, stops_in}
 use Rattle.machine_core.specs.Held.{IsInHand}
 use Rattle.machine_core.specs.Kept.{IsBeside, guest_lent}
+use Rattle.machine_core.proofs.Constants.{truth}
 use Rattle.machine_core.proofs.stretches.step_owing.Given as goal
 
 -- those so far were steps, in the space that was lent
 abbrev pub invariant-stepping : goal.invariant-stepping
-invariant-stepping l = record {
+invariant-stepping g l = record {
   loan : l.view.memory.ghost_name ≡ l.fn.view.memory.ghost_name;
   space : l.view.space ≡ l.fn.view.space;
   ready : IsReadyView l.view;
   all : AreLikeExecutions
-      (after_steps l.steps (executions (stops_in l.stops) l.fn.view.space (l.most - l.steps) (guest_ahead l.hand.owed (guest_lent l.view l.process))))
-      (executions (stops_in l.stops) l.fn.view.space l.most (guest_lent l.fn.view l.fn.process));
+      (after_steps l.steps (executions (stops_in l.stops) l.fn.view.space (l.most - l.steps) (guest_ahead l.hand.owed (guest_lent (truth g.row.EXTENSION) l.view l.process))))
+      (executions (stops_in l.stops) l.fn.view.space l.most (guest_lent (truth g.row.EXTENSION) l.fn.view l.fn.process));
   running : l.process.state ≡ Running;
   saved : l.process.saved ≡ l.fn.process.saved;
   few : l.hand.owed ≤ l.steps;
@@ -27,4 +28,4 @@ invariant-stepping l = record {
 }
 
 abbrev pub decreases-stepping : goal.decreases-stepping
-decreases-stepping l = l.most - l.steps
+decreases-stepping g l = l.most - l.steps

@@ -35,9 +35,9 @@ returns-in-Ok-clause-does g c =
           w.dump-sent.ensures.sends)
       | in-Disasm w ↦
           rw (w.report-is, w.session-is, w.in-Disasm.is)
-          (text_done g.K.Sink c.args.report.now.sink.now _ (disasm_done rules w.in-Disasm.p w.in-Disasm.address w.in-Disasm.words state) session w.disasm-sent.result _
+          (text_done g.K.Sink c.args.report.now.sink.now _ (disasm_done rules session.modes.extension w.in-Disasm.p w.in-Disasm.address w.in-Disasm.words state) session w.disasm-sent.result _
           (sym w.sent-is ∙ c.in-Ok.is)
-          (prints_keep w.in-Disasm.address (WORD_BYTES * w.in-Disasm.words) (λ memory. disasm_text memory w.in-Disasm.address w.in-Disasm.words)
+          (prints_keep w.in-Disasm.address (WORD_BYTES * w.in-Disasm.words) (λ memory. disasm_text session.modes.extension memory w.in-Disasm.address w.in-Disasm.words)
           (get state.wholes.processes w.in-Disasm.p) state)
           w.disasm-sent.ensures.sends)
     ]

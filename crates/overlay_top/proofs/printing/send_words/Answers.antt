@@ -13,7 +13,7 @@ sending-init g c = record {
   same = refl;
   sound = refl;
   sees = c.requires.sees;
-  text = λ tells. none_done (g.K.Sink.taken c.args.report.now.sink.now) (disasm_text (memory_in c.args.p c.args.session.now.state) c.args.address c.args.words);
+  text = λ tells. none_done (g.K.Sink.taken c.args.report.now.sink.now) (disasm_text c.args.session.now.modes.extension (memory_in c.args.p c.args.session.now.state) c.args.address c.args.words);
 }
 
 pub word_line-requires : goal.word_line-requires
@@ -26,10 +26,10 @@ pub returns-in_err-send-clause-sends : goal.returns-in_err-send-clause-sends
 returns-in_err-send-clause-sends g c =
     let memory = memory_in c.args.p c.args.session.now.state in
     sends_cut g.K.Sink c.args.report.now.sink.now c.sending.report.sink.now c.send.new.self.sink.now c.sending.invariant.sound
-    (disasm_text memory c.sending.at c.sending.left) c.word_line.new.line.items (disasm_text memory (c.sending.at + WORD_BYTES) (c.sending.left - 1))
-    (disasm_text memory c.args.address c.args.words)
+    (disasm_text c.args.session.now.modes.extension memory c.sending.at c.sending.left) c.word_line.new.line.items (disasm_text c.args.session.now.modes.extension memory (c.sending.at + WORD_BYTES) (c.sending.left - 1))
+    (disasm_text c.args.session.now.modes.extension memory c.args.address c.args.words)
     c.in_err-send.field-0.0 c.from_residual.result c.in_err-send.field-0.0 (by_err c.from_residual.result c.in_err-send.field-0.0 c.from_residual.ensures)
-    (next_word memory c.sending.at c.sending.left c.word_line.new.line.items c.sending-test.true c.word_line.ensures)
+    (next_word c.args.session.now.modes.extension memory c.sending.at c.sending.left c.word_line.new.line.items c.sending-test.true c.word_line.ensures)
     c.sending.invariant.text c.in_err-send.ensures.sends
 
 pub returns-in_err-send-clause-same : goal.returns-in_err-send-clause-same
@@ -50,9 +50,9 @@ sending-preserved g c =
       sees = subst (λ n. Sees (get state.wholes.processes c.args.p) (c.sending.at + WORD_BYTES) n) fewer rest;
       text = λ tells.
           more_done (g.K.Sink.taken c.args.report.now.sink.now) (g.K.Sink.taken c.sending.report.sink.now) (g.K.Sink.taken c.send.new.self.sink.now)
-          (disasm_text memory c.sending.at c.sending.left) c.word_line.new.line.items (disasm_text memory (c.sending.at + WORD_BYTES) (c.sending.left - 1))
-          (disasm_text memory c.args.address c.args.words)
-          (next_word memory c.sending.at c.sending.left c.word_line.new.line.items c.sending-test.true c.word_line.ensures)
+          (disasm_text c.args.session.now.modes.extension memory c.sending.at c.sending.left) c.word_line.new.line.items (disasm_text c.args.session.now.modes.extension memory (c.sending.at + WORD_BYTES) (c.sending.left - 1))
+          (disasm_text c.args.session.now.modes.extension memory c.args.address c.args.words)
+          (next_word c.args.session.now.modes.extension memory c.sending.at c.sending.left c.word_line.new.line.items c.sending-test.true c.word_line.ensures)
           (c.in_ok-send.ensures.sends.1 tells) (c.sending.invariant.text tells);
     }
 
@@ -62,8 +62,8 @@ returns-clause-sends g c =
       c.sending.invariant.sound,
       λ tells.
           last_done (g.K.Sink.taken c.args.report.now.sink.now) (g.K.Sink.taken c.sending.report.sink.now) (g.K.Sink.taken c.sending.report.sink.now)
-          (disasm_text memory c.sending.at c.sending.left) [] (disasm_text memory c.args.address c.args.words)
-          (no_words memory c.sending.at c.sending.left c.sending-test.false)
+          (disasm_text c.args.session.now.modes.extension memory c.sending.at c.sending.left) [] (disasm_text c.args.session.now.modes.extension memory c.args.address c.args.words)
+          (no_words c.args.session.now.modes.extension memory c.sending.at c.sending.left c.sending-test.false)
           (sym (append-nil (g.K.Sink.taken c.sending.report.sink.now))) (c.sending.invariant.text tells),
     )
 

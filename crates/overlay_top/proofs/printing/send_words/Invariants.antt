@@ -12,8 +12,8 @@ invariant-sending g l = record {
   same : l.report.sink.ghost_name ≡ l.fn.report.sink.ghost_name;
   sound : g.K.Sink.faults l.report.sink.now ≡ g.K.Sink.faults l.fn.report.sink.now;
   sees : Sees (get l.session.state.wholes.processes l.p) l.at (WORD_BYTES * l.left);
-  text : g.K.Sink.tells → IsDone (g.K.Sink.taken l.fn.report.sink.now) (g.K.Sink.taken l.report.sink.now) (disasm_text (memory_in l.p l.session.state) l.at l.left)
-      (disasm_text (memory_in l.p l.session.state) l.address l.words);
+  text : g.K.Sink.tells → IsDone (g.K.Sink.taken l.fn.report.sink.now) (g.K.Sink.taken l.report.sink.now) (disasm_text l.session.modes.extension (memory_in l.p l.session.state) l.at l.left)
+      (disasm_text l.session.modes.extension (memory_in l.p l.session.state) l.address l.words);
 }
 
 abbrev pub decreases-sending : goal.decreases-sending

@@ -18,7 +18,7 @@ returns-clause-gives c =
     subst (λ (s : InSession). GivesChange (still_row (registry_of s.state)) s.state Done
     (shown_state (with_memory c.self.inside.machine c.compact.new.self) c.self.inside.checkpoints c.self.inside.breakpoints)) c.self.view_is
     (gives_moved s.machine (with_memory s.machine c.compact.new.self) s.checkpoints s.breakpoints
-    (c.compact.ensures.state ∙ ap state_of c.memory_mut.ensures.value, c.compact.ensures.translations ∙ ap translations_of c.memory_mut.ensures.value, refl))
+    (c.compact.ensures.state ∙ ap state_of c.memory_mut.ensures.value, c.compact.ensures.translations ∙ ap translations_of c.memory_mut.ensures.value, refl, refl))
 
 pub returns-clause-settled : goal.returns-clause-settled
 unfolding free_blocks_of
@@ -31,5 +31,5 @@ invariant_of-self c =
     let s = c.self.inside in
     let new = with_memory s.machine c.compact.new.self in
     let keeps = keeps_before s.machine new
-    (c.compact.ensures.state ∙ ap state_of c.memory_mut.ensures.value, c.compact.ensures.translations ∙ ap translations_of c.memory_mut.ensures.value, refl) in
+    (c.compact.ensures.state ∙ ap state_of c.memory_mut.ensures.value, c.compact.ensures.translations ∙ ap translations_of c.memory_mut.ensures.value, refl, refl) in
     (keeps.session (spaces_kept s.checkpoints) s.numbers c.self.invariant.0, c.self.invariant.1, breaks_kept s.machine new s.breakpoints keeps.stay c.self.invariant.2)

@@ -6,7 +6,7 @@ use Rattle.machine_core.proofs.machine.Machine.is_running.Goals as goal
 
 pub returns-clause-running : goal.returns-clause-running
 returns-clause-running c =
-    rw (← c.self.view_is) (c.runs_in.ensures ∙ sym (runs_shown (machine_of c.self.inside.memory c.self.inside.processes) c.args.p))
+    rw (← c.self.view_is) (c.runs_in.ensures ∙ sym (runs_shown (machine_of c.self.inside.extension c.self.inside.memory c.self.inside.processes) c.args.p))
 
 pub returns-clause-stands : goal.returns-clause-stands
 returns-clause-stands c =

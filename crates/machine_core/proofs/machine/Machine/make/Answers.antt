@@ -19,7 +19,7 @@ returns-in-Ok-clause-made c =
     let old = c.args.self.now in
     let process : declared.Process = record { regs = c.new.result; state = Running; saved = None } in
     let is = made_process file c.new.result (c.new.ensures ∙ ap (λ pc. first_registers pc STACK_POINTER) (c.entry.ensures ∙ c.requires.of_file.entry)) in
-    loaded file p old (machine_of c.load_space.new.memory c.adopt.new.processes) (c.load_space.ensures.lists ∙ ap lists_of c.self.view_is)
+    loaded file p old (machine_of c.self.inside.extension c.load_space.new.memory c.adopt.new.processes) (ap (λ (m : Machine). m.extension) c.self.view_is) (c.load_space.ensures.lists ∙ ap lists_of c.self.view_is)
     (subst (λ (m : Machine). IsSpaceOf file p (spaces_of m) (state_of c.load_space.new.memory)) c.self.view_is c.in_ok-load_space.ensures.made)
     (c.in-Ok.ensures.ok ∙ ap (λ (m : Machine). insert m.processes p process) c.self.view_is ∙ ap (insert old.processes p) is)
 
@@ -29,4 +29,5 @@ returns-in-Err-clause-kept c = (
       (subst (λ (m : Machine). IsSpaceOf c.args.file.now c.args.p (spaces_of m) (state_of c.load_space.new.memory)) c.self.view_is c.in_ok-load_space.ensures.made) c.drop_space.ensures.state,
   c.drop_space.ensures.translations ∙ ap (flushed c.args.p) c.load_space.ensures.lists ∙ c.in_ok-load_space.ensures.unseen ∙ ap lists_of c.self.view_is,
   c.in-Err.ensures.err ∙ ap (λ (m : Machine). m.processes) c.self.view_is,
+  ap (λ (m : Machine). m.extension) c.self.view_is,
 )
