@@ -5,6 +5,7 @@ ghost use Rattle.std.specs.List.{AllByRecursion};
 ghost use Rattle.sizes.specs.declared.TheConstants.{LINE_BYTES, MOST_SPACE_PAGES, PAGE_LINES};
 ghost use Rattle.overlay_bits.specs.Kept.{word_of};
 ghost use Rattle.overlay_bits.specs.Lines.{Rise};
+ghost use Rattle.delta_image.specs.declared.delta.Delta.{Delta};
 ghost use Rattle.delta_image.specs.Line.{IsLine, numbers_of};
 ghost use Rattle.delta_image.specs.Image.{head_part, image_of, kind_code, lines_part, page_part, pages_part, registers_part, state_part, words_part};
 ghost use Rattle.delta_image.specs.Fine.{AreRegisters, Ascend, HasLines, IsImageOf, IsPlain, IsState, IsWord};
@@ -194,7 +195,8 @@ pub fn length_of(d: &Delta) -> usize
 pub fn encode(alloc: Global, d: &Delta) -> Result<Vec<u8>, AllocError>
     requires few { length d.now.pages ≤ MOST_SPACE_PAGES }
     requires pages { Ascend IsPlain 0 d.now.pages }
-    ensures { IfOk result (λ image. IsImageOf image.items d.now) }
+    ensures image { IfOk result (λ image. IsImageOf image.items d.now) }
+    ensures only { IfOk result (λ image. (other : Delta) → IsImageOf image.items other → other ≡ d.now) }
 {
     let pages = d.pages.as_slice();
     let mut out = Vec::with_capacity(alloc, length_of(d))?;
