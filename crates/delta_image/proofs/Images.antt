@@ -1,5 +1,5 @@
 use Rattle.std.proofs.Common.{◌≡◌, ℕ, ◌+◌, ◌^◌, ◌<◌, ◌≤◌, List, [], ◌++◌, length, drop, sym, ap, ◌∙◌, arith, append_assoc, length-append}
-use Rattle.std.specs.Prelude.{Result, Ok, Err}
+use Rattle.std.specs.Prelude.{IfOk, Result, Ok, Err}
 use Rattle.std.specs.Int.{w32, to_le_bytes}
 use Rattle.std.specs.List.{AllByRecursion}
 use Rattle.std.proofs.lemmas.List.{append-nil}
@@ -13,7 +13,7 @@ use Rattle.delta_image.specs.Image.{image_of, pages_part, registers_part, state_
 use Rattle.delta_image.specs.Fine.{AreRegisters, Ascend, HasLines, IsImageOf, IsPlain, IsState}
 use Rattle.delta_image.specs.Decoding.{AreManyPages, Decodes, DecodesAlone}
 use Rattle.delta_image.proofs.Numbers.{one32}
-use Rattle.delta_image.proofs.Pages.{one_pages, with_lines}
+use Rattle.delta_image.proofs.Pages.{one_pages, with_lines, without_lines}
 use Rattle.delta_image.proofs.Registers.{one_registers}
 use Rattle.delta_image.proofs.States.{one_state}
 
@@ -102,3 +102,13 @@ one_image bytes a b one other =
 pub decodes_alone : (bytes : List ℕ) (r : Result Delta ImageError) → Decodes bytes r → DecodesAlone bytes r
 decodes_alone bytes (Ok delta) is = λ other h. one_image bytes other delta h is
 decodes_alone bytes (Err error) is = tt
+
+-- What is decoded may be encoded.
+
+pub decodes_few : (bytes : List ℕ) (r : Result Delta ImageError) → Decodes bytes r → IfOk r (λ delta. length delta.pages ≤ MOST_SPACE_PAGES)
+decodes_few bytes (Ok delta) is = is.0.few
+decodes_few bytes (Err error) is = tt
+
+pub decodes_pages : (bytes : List ℕ) (r : Result Delta ImageError) → Decodes bytes r → IfOk r (λ delta. Ascend IsPlain 0 delta.pages)
+decodes_pages bytes (Ok delta) is = without_lines 0 delta.pages is.0.pages
+decodes_pages bytes (Err error) is = tt

@@ -127,6 +127,10 @@ pub with_lines : (from : ℕ) (pages : List DeltaPage) → Ascend IsPlain from p
 with_lines from [] are whole = tt
 with_lines from (p ∷ ps) are whole = (are.0, (are.1, whole.0), with_lines (p.page + 1) ps are.2 whole.1)
 
+pub without_lines : (from : ℕ) (pages : List DeltaPage) → Ascend IsPage from pages → Ascend IsPlain from pages
+without_lines from [] are = tt
+without_lines from (p ∷ ps) are = (are.0, are.1.0, without_lines (p.page + 1) ps are.2)
+
 -- one more page
 pub pages_push : (from : ℕ) (pages : List DeltaPage) (page : DeltaPage) → Ascend IsPage from pages → end_of from pages ≤ page.page → IsPage page
     → Ascend IsPage from (pages ++ page ∷ []) × (end_of from (pages ++ page ∷ []) ≡ page.page + 1)

@@ -1,10 +1,11 @@
 //! The delta of an image, read from front to back.
 
-ghost use Rattle.std.specs.Prelude.{◌≡◌, ◌<◌, ◌^◌, ◌∷◌, []};
+ghost use Rattle.std.specs.Prelude.{◌≡◌, ◌<◌, ◌≤◌, ◌^◌, ◌∷◌, [], length, IfOk};
 ghost use Rattle.std.specs.Int.{w32, w64, to_le_bytes};
+ghost use Rattle.sizes.specs.declared.TheConstants.{MOST_SPACE_PAGES};
 ghost use Rattle.delta_image.specs.declared.encoding.TheConstants.{MAGIC};
 ghost use Rattle.delta_image.specs.Image.{lines_part, page_part, pages_part, registers_part, state_part};
-ghost use Rattle.delta_image.specs.Fine.{AreRegisters, IsState, IsWord, are_perms};
+ghost use Rattle.delta_image.specs.Fine.{AreRegisters, Ascend, IsPlain, IsState, IsWord, are_perms};
 ghost use Rattle.delta_image.specs.Decoding.{AreLinesOf, AreManyPages, Decodes, DecodesAlone, IsKind, IsPageFrom, Reads, is_number};
 
 use crate::delta::{Delta, DeltaPage};
@@ -192,13 +193,15 @@ fn image_at(alloc: Global, bytes: &[u8]) -> Result<Delta, ImageError>
     Ok(Delta { state, regs, pages })
 }
 
-/// The delta that bytes are the image of.
+/// The delta that bytes are the image of. It may be encoded.
 ///
 /// `BadImage` exactly where they are the image of none; `Memory` where there was none for what they say, which takes at most four bytes
 /// for each of theirs.
 pub fn decode(alloc: Global, bytes: &[u8]) -> Result<Delta, ImageError>
     ensures image { Decodes bytes.now result }
     ensures only { DecodesAlone bytes.now result }
+    ensures few { IfOk result (λ d. length d.pages ≤ MOST_SPACE_PAGES) }
+    ensures pages { IfOk result (λ d. Ascend IsPlain 0 d.pages) }
 {
     image_at(alloc, bytes)
 }

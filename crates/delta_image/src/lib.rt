@@ -17,6 +17,8 @@ mod delta_lines;
 mod delta_pages;
 mod encoding;
 mod image_error;
+#[cfg(test)]
+mod tests;
 
 pub use decoding::decode;
 pub use delta::{Delta, DeltaPage};
