@@ -1,4 +1,4 @@
-use Rattle.std.proofs.Common.{◌≡◌, ℕ, ◌+◌, ◌^◌, ◌<◌, ◌≤◌, List, [], ◌++◌, length, drop, sym, ap, ◌∙◌, arith, append_assoc, length-append}
+use Rattle.std.proofs.Common.{◌≡◌, ℕ, ◌^◌, ◌<◌, ◌≤◌, List, [], ◌++◌, length, drop, sym, ap, ◌∙◌, arith, append_assoc}
 use Rattle.std.specs.Prelude.{IfOk, Result, Ok, Err}
 use Rattle.std.specs.Int.{w32, to_le_bytes}
 use Rattle.std.specs.List.{AllByRecursion}
@@ -28,16 +28,6 @@ behind_state delta = registers_part delta.regs ++ behind_registers delta
 
 pub image_split : (delta : Delta) → image_of delta ≡ MAGIC ++ (state_part delta.state ++ behind_state delta)
 image_split delta = simp append_assoc
-
-pub image_length : (delta : Delta)
-    → length (image_of delta) ≡ length (state_part delta.state) + length (registers_part delta.regs) + 8 + length (pages_part delta.pages)
-image_length delta =
-    omega (
-      arith,
-      ap length (image_split delta),
-      length-append (state_part delta.state) (behind_state delta),
-      length-append (registers_part delta.regs) (behind_registers delta),
-    )
 
 -- What is left of an image behind each part that was read.
 

@@ -10,6 +10,7 @@ use Rattle.overlay_bits.specs.Kept.{has_bit, lines_of_word}
 use Rattle.delta_image.specs.Line.{Line, IsLine, numbers_of}
 use Rattle.delta_image.specs.Image.{lines_part}
 use Rattle.delta_image.specs.Decoding.{AreLinesOf}
+use Rattle.delta_image.specs.LengthLaws.{lines_length}
 use Rattle.delta_image.proofs.Lists.{all_push, split_same}
 
 -- The lines of a page, one behind the other.
@@ -27,10 +28,6 @@ one_lines (x ∷ xs) (y ∷ ys) r s one other numbers e =
     let others : numbers_of xs ≡ numbers_of ys = cc in
     let rest = one_lines xs ys r s one.1 other.1 others parts.1 in
     (λ i. (first i, parts.0 i) ∷ rest.0 i, rest.1)
-
-pub lines_length : (lines : List Line) → AllByRecursion IsLine lines → length (lines_part lines) ≡ 64 * length lines
-lines_length [] whole = refl
-lines_length (x ∷ xs) whole = length-append x.1 (lines_part xs) ∙ omega (arith, whole.0, lines_length xs whole.1)
 
 -- how long the lines before one are
 pub record IsLinesLength (n i : ℕ) (lines : List Line) : Type 0 where

@@ -1,4 +1,4 @@
-use Rattle.std.proofs.Common.{◌≡◌, ℕ, ◌*◌, ◌^◌, ◌<◌, ◌≤◌, List, [], ◌∷◌, ◌++◌, length, take, drop, get_or, inl, inr, refl, sym, ap, ◌∙◌, arith, append_assoc}
+use Rattle.std.proofs.Common.{◌≡◌, ℕ, ◌^◌, ◌<◌, ◌≤◌, List, [], ◌∷◌, ◌++◌, length, take, drop, get_or, inl, inr, refl, sym, ap, ◌∙◌, arith, append_assoc}
 use Rattle.std.specs.Int.{w32, w64, to_le_bytes, from_le_bytes}
 use Rattle.std.specs.List.{AllByRecursion}
 use Rattle.std.proofs.lemmas.Bool.{cases_lt}
@@ -34,10 +34,6 @@ pub word_behind : (done words : List ℕ) (r s : List ℕ) → AllByRecursion Is
 word_behind done [] r s all lt e = absurd (omega (arith, lt))
 word_behind [] (y ∷ ys) r s all lt e = (y, words_part ys ++ s, all.0, e ∙ append_assoc (to_le_bytes w64 y) (words_part ys) s)
 word_behind (x ∷ xs) (y ∷ ys) r s all lt e = word_behind xs ys r s all.1 (omega (arith, lt)) (ap (drop 8) e)
-
-pub words_length : (words : List ℕ) → length (words_part words) ≡ 8 * length words
-words_length [] = refl
-words_length (x ∷ xs) = omega (arith, words_length xs)
 
 -- Numbers that are read.
 

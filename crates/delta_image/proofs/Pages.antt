@@ -1,5 +1,4 @@
 use Rattle.std.proofs.Common.{◌≡◌, ℕ, zero, suc, ◌+◌, ◌*◌, ◌^◌, ◌<◌, ◌≤◌, true, false, List, [], ◌∷◌, ◌++◌, length, get_or, take, drop, refl, sym, ap, subst, ◌∙◌, arith, append_assoc, length-append}
-use Rattle.std.specs.Prelude.{IsTrue}
 use Rattle.std.specs.Int.{w32, w64, to_le_bytes}
 use Rattle.std.specs.List.{AllByRecursion}
 use Rattle.std.proofs.lemmas.Bool.{and_from, and_parts, both_ways, leb-true, le-leb, ltb-true, lt-ltb}
@@ -10,11 +9,12 @@ use Rattle.overlay_bits.specs.Lines.{Rise}
 use Rattle.overlay_bits.specs.Below.{rise_bounds}
 use Rattle.overlay_bits.specs.Laws.{are_rise, are_where}
 use Rattle.delta_image.specs.declared.delta.DeltaPage.{DeltaPage}
-use Rattle.delta_image.specs.Line.{Line, IsLine, numbers_of}
+use Rattle.delta_image.specs.Line.{Line, numbers_of}
 use Rattle.delta_image.specs.Image.{head_part, lines_part, page_part, pages_part}
 use Rattle.delta_image.specs.Fine.{Ascend, HasLines, IsPage, IsPlain, IsWord, are_perms}
 use Rattle.delta_image.specs.Decoding.{AreLinesOf, IsPageFrom, is_number}
-use Rattle.delta_image.proofs.Lines.{lines_length, one_lines}
+use Rattle.delta_image.specs.LengthLaws.{lines_length, page_length}
+use Rattle.delta_image.proofs.Lines.{one_lines}
 use Rattle.delta_image.proofs.Lists.{all_push}
 use Rattle.delta_image.proofs.Numbers.{one32, one64}
 use Rattle.delta_image.proofs.Vectors.{same_words, word_fits}
@@ -179,10 +179,6 @@ pages_more bytes pages page rest after so_far next =
 
 pub lines_few : (page : DeltaPage) → IsPlain page → length page.lines ≤ PAGE_LINES
 lines_few page is = omega (arith, rise_bounds 0 (numbers_of page.lines) 64 is.rise, length-map page.lines (λ (l : Line). l.0))
-
-pub page_length : (page : DeltaPage) → length (page_part page) ≡ 13 + length (lines_part page.lines)
-unfolding head_part
-page_length page = omega arith
 
 -- how long the pages before one are, and that their lines have their bytes
 pub record IsLength (n i : ℕ) (pages : List DeltaPage) : Type 0 where

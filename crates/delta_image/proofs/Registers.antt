@@ -1,4 +1,4 @@
-use Rattle.std.proofs.Common.{◌≡◌, ℕ, zero, suc, ◌+◌, ◌*◌, ◌<◌, ◌≤◌, false, cond, eqb, List, [], ◌∷◌, ◌++◌, length, take, drop, replicate, refl, sym, ap, subst, ◌∙◌, arith, append_assoc}
+use Rattle.std.proofs.Common.{◌≡◌, ℕ, zero, suc, ◌+◌, ◌<◌, ◌≤◌, false, cond, eqb, List, [], ◌∷◌, ◌++◌, length, take, drop, replicate, refl, sym, ap, subst, ◌∙◌, arith, append_assoc}
 use Rattle.std.specs.Prelude.{slice_index, slice_set}
 use Rattle.std.specs.Int.{w64, to_le_bytes}
 use Rattle.std.specs.List.{AllByRecursion}
@@ -7,20 +7,11 @@ use Rattle.std.proofs.lemmas.List.{flat_map_more, get_or-set_other, length-drop,
 use Rattle.rv_execute.specs.Registers.{Registers, first_registers, with_pc, with_register}
 use Rattle.delta_image.specs.Image.{register_numbers, registers_part, words_part}
 use Rattle.delta_image.specs.Fine.{AreRegisters, IsWord}
+use Rattle.delta_image.specs.LengthLaws.{many_numbers}
 use Rattle.delta_image.proofs.Lists.{all_set, rest_push, rest_set}
-use Rattle.delta_image.proofs.Numbers.{one_words, word_behind, words_length}
+use Rattle.delta_image.proofs.Numbers.{one_words, word_behind}
 
 -- The registers of an image.
-
-many_numbers : (regs : Registers) → length regs.x ≡ 32 → length (register_numbers regs) ≡ 32
-many_numbers regs count = at regs.x count
-  where
-    at : (x : List ℕ) → length x ≡ 32 → length (regs.pc ∷ drop 1 x) ≡ 32
-    at [] e = absurd (omega (arith, e))
-    at (y ∷ ys) e = omega (arith, e)
-
-pub registers_length : (regs : Registers) → length regs.x ≡ 32 → length (registers_part regs) ≡ 8 * 32
-registers_length regs count = words_length (register_numbers regs) ∙ ap (λ n. 8 * n) (many_numbers regs count)
 
 -- all but x0, as a slice has it
 rest_is : (x : List ℕ) → length x ≡ 32 → take 31 (drop 1 x) ≡ drop 1 x

@@ -1,11 +1,10 @@
 use Rattle.std.proofs.Common.{◌≡◌, ℕ, zero, suc, ◌+◌, ◌*◌, ◌<◌, ◌≤◌, ◌⊎◌, inl, inr, Bool, true, false, not, cond, List, [], ◌∷◌, ◌++◌, map, length, take, drop, refl, sym, ap, subst, ◌∙◌, arith}
-use Rattle.std.specs.Prelude.{◌&&◌, ◌||◌, nat_eq, nat_lt, IsTrue, T, Some, None, is_some}
-use Rattle.std.specs.FinMap.{entries, entries_sorted, from_entries, get, get-entries, get-from_entries}
+use Rattle.std.specs.Prelude.{◌&&◌, ◌||◌, nat_eq, IsTrue, T, Some, is_some}
+use Rattle.std.specs.FinMap.{entries, entries_sorted, get, get-entries, get-from_entries}
 use Rattle.std.specs.FinMap.Entries.{below_all, find, is_sorted}
 use Rattle.std.specs.List.{AllByRecursion}
 use Rattle.std.specs.Ordering.{nat_cmp, is_eq, is_lt}
-use Rattle.std.specs.declared.cmp.Ordering.{Ordering}
-use Rattle.std.specs.declared.cmp.Ordering.TheVariants.{Less, Equal, Greater}
+use Rattle.std.specs.declared.cmp.Ordering.TheVariants.{Equal, Greater}
 use Rattle.std.specs.Cmp.{nat_cmp_is, nat_cmp_total}
 use Rattle.std.specs.Bool.{Decides}
 use Rattle.std.specs.Str.{bytes_eq}
@@ -14,7 +13,7 @@ use Rattle.std.proofs.lemmas.Bool.{cases_order, eqb-true, lt-ltb}
 use Rattle.std.proofs.lemmas.List.{length-map, length-take-le, length-drop, take_all}
 use Rattle.std.proofs.lemmas.Slice.Eq.{bytes_eq-Decides}
 use Rattle.number_maps.specs.Keys.{alike, differs, tied, ties}
-use Rattle.sizes.specs.declared.TheConstants.{LINE_BYTES, MOST_SPACE_PAGES, PAGE_END, PAGE_LINES}
+use Rattle.sizes.specs.declared.TheConstants.{MOST_SPACE_PAGES, PAGE_BYTES, PAGE_END, PAGE_LINES}
 use Rattle.overlay_bits.specs.Lines.{Rise, has_line}
 use Rattle.overlay_bits.specs.Below.{has_below, rise_bounds}
 use Rattle.overlay_bits.specs.Laws.{are_where}
@@ -22,8 +21,7 @@ use Rattle.ovl_io.specs.Memory.{Memory, Page}
 use Rattle.ovl_io.specs.PageBytes.{IsMemory}
 use Rattle.ovl_io.specs.declared.process_state.ProcessState.{ProcessState}
 use Rattle.rv_execute.specs.Registers.{Registers}
-use Rattle.delta_image.specs.declared.delta.DeltaPage.{DeltaPage}
-use Rattle.delta_image.specs.Line.{Line, IsLine, numbers_of}
+use Rattle.delta_image.specs.Line.{IsLine, numbers_of}
 use Rattle.delta_image.specs.Fine.{AreRegisters, Ascend, IsFine, IsPage, IsState, are_perms}
 use Rattle.delta_image.specs.Applied.{applied, applied_bytes, applied_page, base_bytes, different_lines, gathered, gathered_lines, gathered_page, given_or, joined, line_in}
 
@@ -54,7 +52,7 @@ given_at f (x ∷ xs) bytes i = at (nat_eq x i) refl (given_at f xs bytes i)
     at true is rest = ap f (eqb-true x i is)
     at false is rest = rest
 
-line_back : (bytes base : List ℕ) (i : ℕ) → i < 64 → given_or (gathered_lines bytes base) (line_in base i) i ≡ line_in bytes i
+line_back : (bytes base : List ℕ) (i : ℕ) → i < PAGE_LINES → given_or (gathered_lines bytes base) (line_in base i) i ≡ line_in bytes i
 line_back bytes base i lt =
     given_at (line_in bytes) (different_lines bytes base) (line_in base i) i
     ∙ ap (λ (b : Bool). cond b (line_in bytes i) (line_in base i)) member
@@ -67,17 +65,17 @@ line_back bytes base i lt =
     at true same = sym (same.0 refl)
     at false differ = refl
 
-pub bytes_back : (bytes base : List ℕ) → length bytes ≡ 4096 → applied_bytes (gathered_lines bytes base) base ≡ bytes
+pub bytes_back : (bytes base : List ℕ) → length bytes ≡ PAGE_BYTES → applied_bytes (gathered_lines bytes base) base ≡ bytes
 bytes_back bytes base whole =
     joined_same (λ i. given_or (gathered_lines bytes base) (line_in base i) i) (line_in bytes) 64 (line_back bytes base)
     ∙ joined_lines bytes 64 ∙ take_all 4096 bytes (omega (arith, whole))
 
-page_back : (base : Memory) (number : ℕ) (page : Page) → length page.bytes ≡ 4096 → applied_page base (gathered_page base number page) ≡ page
+page_back : (base : Memory) (number : ℕ) (page : Page) → length page.bytes ≡ PAGE_BYTES → applied_page base (gathered_page base number page) ≡ page
 page_back base number page whole = λ i. record { perms = page.perms; bytes = bytes_back page.bytes (base_bytes base number) whole i }
 
 -- The delta of a memory over a base makes that memory of the base.
 
-find_back : (base : Memory) (q : ℕ) (es : List (ℕ × Page)) → ((page : Page) → find nat_cmp q es ≡ Some page → length page.bytes ≡ 4096)
+find_back : (base : Memory) (q : ℕ) (es : List (ℕ × Page)) → ((page : Page) → find nat_cmp q es ≡ Some page → length page.bytes ≡ PAGE_BYTES)
     → find nat_cmp q (map (λ page. (page.page, applied_page base page)) (map (λ entry. gathered_page base entry.0 entry.1) es)) ≡ find nat_cmp q es
 find_back base q [] whole = refl
 find_back base q (e ∷ es) whole = at (is_eq (nat_cmp q e.0)) refl (find_back base q es)
@@ -86,7 +84,7 @@ find_back base q (e ∷ es) whole = at (is_eq (nat_cmp q e.0)) refl (find_back b
     made = map (λ page. (page.page, applied_page base page)) (map (λ entry. gathered_page base entry.0 entry.1) es)
 
     at : (b : Bool) → is_eq (nat_cmp q e.0) ≡ b
-        → (((page : Page) → find nat_cmp q es ≡ Some page → length page.bytes ≡ 4096) → find nat_cmp q made ≡ find nat_cmp q es)
+        → (((page : Page) → find nat_cmp q es ≡ Some page → length page.bytes ≡ PAGE_BYTES) → find nat_cmp q made ≡ find nat_cmp q es)
         → cond b (Some (applied_page base (gathered_page base e.0 e.1))) (find nat_cmp q made) ≡ cond b (Some e.1) (find nat_cmp q es)
     at true is rest = ap Some (page_back base e.0 e.1 (whole e.1 (ap (λ (b : Bool). cond b (Some e.1) (find nat_cmp q es)) is)))
     at false is rest = rest (λ page found. whole page (ap (λ (b : Bool). cond b (Some e.1) (find nat_cmp q es)) is ∙ found))
@@ -139,10 +137,10 @@ ascend base from (e ∷ es) sorted all each =
           each q page (ap (λ (b : Bool). cond b (Some e.1) (find nat_cmp q es)) other ∙ found)),
     )
 
-line_long : (bytes : List ℕ) (i : ℕ) → length bytes ≡ 4096 → i < 64 → length (line_in bytes i) ≡ 64
+line_long : (bytes : List ℕ) (i : ℕ) → length bytes ≡ PAGE_BYTES → i < PAGE_LINES → length (line_in bytes i) ≡ 64
 line_long bytes i whole lt = length-take-le 64 (drop (64 * i) bytes) (omega (arith, length-drop (64 * i) bytes, whole, lt))
 
-all_lines : (bytes : List ℕ) (numbers : List ℕ) (from : ℕ) → length bytes ≡ 4096 → Rise from numbers 64
+all_lines : (bytes : List ℕ) (numbers : List ℕ) (from : ℕ) → length bytes ≡ PAGE_BYTES → Rise from numbers PAGE_LINES
     → AllByRecursion IsLine (map (λ i. (i, line_in bytes i)) numbers)
 all_lines bytes [] from whole rise = tt
 all_lines bytes (x ∷ xs) from whole rise = (line_long bytes x whole (omega (arith, rise_bounds (x + 1) xs 64 rise.1)), all_lines bytes xs (x + 1) whole rise.1)
@@ -151,12 +149,12 @@ numbers_back : (f : ℕ → List ℕ) (numbers : List ℕ) → numbers_of (map (
 numbers_back f [] = refl
 numbers_back f (x ∷ xs) = λ i. x ∷ numbers_back f xs i
 
-page_fine : (base : Memory) (number : ℕ) (page : Page) → number < PAGE_END → IsTrue (are_perms page.perms) → length page.bytes ≡ 4096
+page_fine : (base : Memory) (number : ℕ) (page : Page) → number < PAGE_END → IsTrue (are_perms page.perms) → length page.bytes ≡ PAGE_BYTES
     → IsPage (gathered_page base number page)
 page_fine base number page low may whole =
     let numbers = different_lines page.bytes (base_bytes base number) in
     let rise = (are_where (λ i. not (bytes_eq (line_in page.bytes i) (line_in (base_bytes base number) i)))).rise in (
-      record { low = low; perms = may; rise = subst (λ xs. Rise 0 xs 64) (sym (numbers_back (line_in page.bytes) numbers)) rise },
+      record { low = low; perms = may; rise = subst (λ xs. Rise 0 xs PAGE_LINES) (sym (numbers_back (line_in page.bytes) numbers)) rise },
       all_lines page.bytes numbers 0 whole rise,
     )
 

@@ -1,4 +1,4 @@
-use Rattle.std.specs.Prelude.{◌≡◌, ℕ, ◌+◌, ◌≤◌, Bool, ◌&&◌, nat_le, nat_lt, List, ◌++◌, length, Option, Some, None, Result, Ok, Err}
+use Rattle.std.specs.Prelude.{◌≡◌, ℕ, ◌≤◌, Bool, ◌&&◌, nat_le, nat_lt, List, ◌++◌, length, Option, Some, None, Result, Ok, Err}
 use Rattle.std.specs.List.{AllByRecursion}
 use Rattle.sizes.specs.declared.TheConstants.{PAGE_END}
 use Rattle.overlay_bits.specs.Kept.{lines_of_word}
@@ -9,7 +9,7 @@ use Rattle.delta_image.specs.declared.image_error.ImageError.{ImageError}
 use Rattle.delta_image.specs.declared.image_error.ImageError.TheVariants.{BadImage, Memory}
 use Rattle.delta_image.specs.Line.{Line, IsLine, numbers_of}
 use Rattle.delta_image.specs.Image.{kind_code}
-use Rattle.delta_image.specs.Fine.{Ascend, IsImageOf, IsPage, are_perms}
+use Rattle.delta_image.specs.Fine.{Ascend, IsImageOf, IsPage}
 
 -- What came of decoding: the delta that the bytes are the image of, and no other one; or they are the image of none, or there was no memory.
 abbrev pub IsRefusal : List ℕ → ImageError → Type 0

@@ -1,4 +1,4 @@
-use Rattle.std.specs.Prelude.{◌≡◌, List, ℕ, [], ◌∷◌, ◌++◌, drop, replicate, length, refl}
+use Rattle.std.specs.Prelude.{◌≡◌, ℕ, [], ◌∷◌, ◌++◌, replicate, refl}
 use Rattle.delta_image.specs.declared.encoding.TheConstants.{MAGIC, PAGE_HEAD_BYTES}
 use Rattle.ovl_io.specs.declared.process_state.FaultKind.TheVariants.{Break}
 use Rattle.ovl_io.specs.declared.process_state.ProcessState.TheVariants.{Running, Exited, Faulted}

@@ -1,5 +1,4 @@
 use Rattle.std.specs.Prelude.{◌≡◌, ℕ, List, length, map}
-use Rattle.std.specs.List.{flat_map}
 use Rattle.sizes.specs.declared.TheConstants.{LINE_BYTES}
 
 -- a line of a page: its number, and its bytes

@@ -1,6 +1,6 @@
-use Rattle.std.specs.Prelude.{◌≡◌, List, [], ◌∷◌, codes, refl}
+use Rattle.std.specs.Prelude.{◌≡◌, [], ◌∷◌, codes, refl}
 use Rattle.hex.specs.Hex.{encode_with}
-use Rattle.image_lines.specs.Lines.{image_line, printed}
+use Rattle.image_lines.specs.Lines.{image_line}
 
 -- Lines, as the checker computes them.
 

@@ -30,7 +30,8 @@ fn behind_end(text: &[u8]) -> Option<&[u8]>
 
 /// Reads a line of 1 to 64 bytes, and answers what stands behind it; none where no such line stands there.
 fn read_line<'a>(out: &mut Vec<u8>, text: &'a [u8]) -> Result<Option<&'a [u8]>, AllocError>
-    ensures { IfOk result (λ found. ReadsLine out.old.items out.new.items text.now (option_map (λ rest. rest.now) found)) }
+    ensures { IfOk result (λ found.
+        ReadsLine out.old.items out.new.items text.now (option_map (λ rest. rest.now) found)) }
 {
     let start = out.len();
     match behind_word(text) {

@@ -1,4 +1,4 @@
-use Rattle.std.proofs.Common.{[], ◌∙◌}
+use Rattle.std.proofs.Common.{[]}
 use Rattle.delta_image.proofs.Lines.{lines_more}
 use Rattle.delta_image.proofs.encoding.lines_length.Goals as goal
 

@@ -1,7 +1,7 @@
 use Rattle.std.proofs.Common.{length, ap, arith}
 use Rattle.delta_image.specs.Image.{lines_part}
-use Rattle.delta_image.proofs.Lines.{lines_length}
-use Rattle.delta_image.proofs.Pages.{lines_few, page_length}
+use Rattle.delta_image.specs.LengthLaws.{lines_length, page_length}
+use Rattle.delta_image.proofs.Pages.{lines_few}
 use Rattle.delta_image.proofs.encoding.page_length.Goals as goal
 
 pub lines_length-requires : goal.lines_length-requires

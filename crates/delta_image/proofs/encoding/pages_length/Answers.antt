@@ -1,9 +1,7 @@
-use Rattle.std.proofs.Common.{length, take, sym, ap, subst, ◌∙◌, arith}
-use Rattle.std.proofs.lemmas.List.{take_all}
-use Rattle.std.specs.List.{AllByRecursion}
+use Rattle.std.proofs.Common.{length, ap, subst, ◌∙◌, arith}
 use Rattle.delta_image.specs.Image.{page_part}
 use Rattle.delta_image.specs.Fine.{HasLines, IsPlain}
-use Rattle.delta_image.proofs.Pages.{IsLength, ascend_at, length_more}
+use Rattle.delta_image.proofs.Pages.{ascend_at, length_more}
 use Rattle.delta_image.proofs.encoding.pages_length.Goals as goal
 
 pub page_length-length-requires : goal.page_length-length-requires

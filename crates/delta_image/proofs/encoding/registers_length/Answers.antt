@@ -1,5 +1,5 @@
-use Rattle.std.proofs.Common.{length, subst, sym, ap, ◌≡◌, ◌∙◌}
-use Rattle.delta_image.proofs.Registers.{registers_length}
+use Rattle.std.proofs.Common.{length, sym, ap, ◌∙◌}
+use Rattle.delta_image.specs.LengthLaws.{registers_length}
 use Rattle.delta_image.proofs.encoding.registers_length.Goals as goal
 
 pub returns-clause-length : goal.returns-clause-length
