@@ -1,6 +1,6 @@
 //! The registers of a process.
 
-ghost use Rattle.std.specs.Prelude.{◌≡◌, ◌<◌, Ok};
+ghost use Rattle.std.specs.Prelude.{◌≡◌, ◌<◌, length, slice_index, Ok};
 ghost use Rattle.rv_execute.specs.Registers.{first_registers, register, with_pc, with_register};
 
 use std::alloc::AllocError;
@@ -68,6 +68,16 @@ impl Regs {
         if i != 0 {
             self.x[i as usize] = v;
         }
+    }
+
+    /// x0 to x31 in their order, of which x0 is 0.
+    #[inline]
+    pub fn x(&self) -> &[u64; 32]
+        ensures values { result.now ≡ self.now.x }
+        ensures count { length result.now ≡ 32 }
+        ensures zero { slice_index result.now 0 ≡ 0 }
+    {
+        &self.x
     }
 
     /// The address of the instruction.

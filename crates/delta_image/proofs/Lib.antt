@@ -1,0 +1,9 @@
+pub mod Images
+pub mod Lines
+pub mod Lists
+pub mod Numbers
+pub mod Pages
+pub mod Reading
+pub mod Registers
+pub mod States
+pub mod Vectors

@@ -1,0 +1,10 @@
+-- In reading order: a line; the bytes of an image, part by part; which deltas have one; what decoding answers; how long an image is; what a delta makes of a memory,
+-- with its laws; the constants as numbers.
+pub mod Line
+pub mod Image
+pub mod Fine
+pub mod Decoding
+pub mod LengthLaws
+pub mod Applied
+pub mod AppliedLaws
+pub mod Examples

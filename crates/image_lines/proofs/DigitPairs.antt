@@ -1,0 +1,175 @@
+use Rattle.std.proofs.Common.{◌≡◌, ℕ, ◌+◌, ◌*◌, ◌/◌, ◌%◌, ◌<◌, ◌≤◌, cond, Bool, Some, None, List, [], ◌∷◌, ◌++◌, length, drop, refl, sym, ap, ◌∙◌, inl, inr, ◌⊎◌, ◌-◌, arith, append_assoc, length-append}
+use Rattle.std.specs.Prelude.{codes, map, nat_lt, slice_index}
+use Rattle.std.specs.List.{AllByRecursion, range_with_len}
+use Rattle.std.proofs.lemmas.Bool.{cases_lt, le-ltb, lt-ltb}
+use Rattle.std.proofs.lemmas.List.{flat_map_more}
+use Rattle.std.proofs.lemmas.List.FromFn.{get_or-map-range_with_len}
+use Rattle.hex.specs.Hex.{encode_lower, encode_with, lower_digits}
+use Rattle.image_lines.specs.Digits.{byte_digits, bytes_digits, digit}
+use Rattle.image_lines.specs.Lines.{IsByte, IsPiece, image_line}
+use Rattle.image_lines.specs.Reading.{Begins, HasNoByte, HaveBytes, IsByteOf, IsDigit, ReadsBytes, ReadsLine}
+
+-- Digits: what each is as a character.
+
+abbrev written : ℕ → ℕ
+written d = cond (nat_lt d 10) (48 + d) (87 + d)
+
+table_is : lower_digits ≡ map written (range_with_len 0 16)
+table_is = refl
+
+digit_is : (d : ℕ) → d < 16 → digit d ≡ written d
+digit_is d lt = ap (λ ds. slice_index ds d) table_is ∙ get_or-map-range_with_len written 0 16 d d 0 lt (omega arith)
+
+pub digit_low : (d : ℕ) → d < 10 → digit d ≡ 48 + d
+digit_low d lt = digit_is d (omega (arith, lt)) ∙ ap (λ (b : Bool). cond b (48 + d) (87 + d)) (lt-ltb d 10 lt)
+
+pub digit_high : (d : ℕ) → 10 ≤ d → d < 16 → digit d ≡ 87 + d
+digit_high d le lt = digit_is d lt ∙ ap (λ (b : Bool). cond b (48 + d) (87 + d)) (le-ltb d 10 le)
+
+-- where a digit lies: from 0 to 9, or from a to f
+pub digit_at : (d : ℕ) → d < 16 → ((48 ≤ digit d) × (digit d ≤ 57)) ⊎ ((97 ≤ digit d) × (digit d ≤ 102))
+digit_at d lt =
+    elim (cases_lt d 10) [
+      | inl low ↦ inl (omega (arith, digit_low d low), omega (arith, digit_low d low, low))
+      | inr high ↦ inr (omega (arith, digit_high d high lt, high), omega (arith, digit_high d high lt, lt))
+    ]
+
+pub digit_ends : (d : ℕ) → d < 16 → (48 ≤ digit d) × (digit d ≤ 102)
+digit_ends d lt =
+    elim (digit_at d lt) [
+      | inl low ↦ (low.0, omega (arith, low.1))
+      | inr high ↦ (omega (arith, high.0), high.1)
+    ]
+
+pub one_digit : (d e : ℕ) → d < 16 → e < 16 → digit d ≡ digit e → d ≡ e
+one_digit d e lt less same =
+    elim (cases_lt d 10) [
+      | inl low ↦ elim (cases_lt e 10) [
+        | inl small ↦ omega (arith, digit_low d low, digit_low e small, same)
+        | inr large ↦ absurd (omega (arith, digit_low d low, digit_high e large less, same, low, large))
+      ]
+      | inr high ↦ elim (cases_lt e 10) [
+        | inl small ↦ absurd (omega (arith, digit_high d high lt, digit_low e small, same, high, small))
+        | inr large ↦ omega (arith, digit_high d high lt, digit_high e large less, same)
+      ]
+    ]
+
+-- the digit of a character, and that others are none
+pub low_digit : (c : ℕ) → 48 ≤ c → c ≤ 57 → (c - 48 < 16) × (digit (c - 48) ≡ c)
+low_digit c ge le = (omega (arith, ge, le), digit_low (c - 48) (omega (arith, ge, le)) ∙ omega (arith, ge))
+
+pub high_digit : (c : ℕ) → 97 ≤ c → c ≤ 102 → (c - 97 + 10 < 16) × (digit (c - 97 + 10) ≡ c)
+high_digit c ge le = (omega (arith, ge, le), digit_high (c - 97 + 10) (omega arith) (omega (arith, ge, le)) ∙ omega (arith, ge))
+
+pub no_digit : (c : ℕ) → (c < 48) ⊎ (((57 < c) × (c < 97)) ⊎ (102 < c)) → (d : ℕ) → d < 16 → digit d ≡ c → ⊥
+no_digit c out d lt same =
+    elim (digit_at d lt) [
+      | inl low ↦ elim out [
+        | inl under ↦ omega (arith, low.0, same, under)
+        | inr (inl between) ↦ omega (arith, low.1, same, between.0)
+        | inr (inr over) ↦ omega (arith, low.1, same, over)
+      ]
+      | inr high ↦ elim out [
+        | inl under ↦ omega (arith, high.0, same, under)
+        | inr (inl between) ↦ omega (arith, high.0, same, between.1)
+        | inr (inr over) ↦ omega (arith, high.1, same, over)
+      ]
+    ]
+
+-- Bytes, of two digits each.
+
+one_byte : (a b : ℕ) → a < 256 → b < 256 → digit (a / 16) ≡ digit (b / 16) → digit (a % 16) ≡ digit (b % 16) → a ≡ b
+one_byte a b lt less high low =
+    let first = one_digit (a / 16) (b / 16) (omega (arith, lt)) (omega (arith, less)) high in
+    let second = one_digit (a % 16) (b % 16) (omega arith) (omega arith) low in
+    omega (arith, first, second)
+
+-- one text is of one run of bytes
+pub one_run : (a b : List ℕ) (rest more : List ℕ) → AllByRecursion IsByte a → AllByRecursion IsByte b → HasNoByte rest
+    → bytes_digits a ++ rest ≡ bytes_digits b ++ 10 ∷ more → (a ≡ b) × (rest ≡ 10 ∷ more)
+one_run [] [] rest more one other none e = (refl, e)
+one_run [] (y ∷ ys) rest more one other none e = absurd (none y (bytes_digits ys ++ 10 ∷ more) other.0 e)
+one_run (x ∷ xs) [] rest more one other none e =
+    let same : digit (x / 16) ≡ 10 = cc in
+    absurd (omega (arith, same, (digit_ends (x / 16) (omega (arith, one.0))).0))
+one_run (x ∷ xs) (y ∷ ys) rest more one other none e =
+    let high : digit (x / 16) ≡ digit (y / 16) = cc in
+    let low : digit (x % 16) ≡ digit (y % 16) = cc in
+    let first = one_byte x y one.0 other.0 high low in
+    let others = one_run xs ys rest more one.1 other.1 none (ap (drop 2) e) in
+    (λ i. first i ∷ others.0 i, others.1)
+
+pub byte_is : (high low a b : ℕ) → IsDigit high (Some a) → IsDigit low (Some b) → (16 * a + b < 256) × (byte_digits (16 * a + b) ≡ high ∷ low ∷ [])
+byte_is high low a b first second =
+    let upper : (16 * a + b) / 16 ≡ a = omega (arith, second.0) in
+    let lower : (16 * a + b) % 16 ≡ b = omega (arith, second.0) in
+    (omega (arith, first.0, second.0), λ i. (ap digit upper ∙ first.1) i ∷ (ap digit lower ∙ second.1) i ∷ [])
+
+pub no_high : (high low : ℕ) → IsDigit high None → IsByteOf high low None
+no_high high low none = λ b lt e. none (b / 16) (omega (arith, lt)) cc
+
+pub no_low : (high low : ℕ) → IsDigit low None → IsByteOf high low None
+no_low high low none = λ b lt e. none (b % 16) (omega arith) cc
+
+all_push : (xs : List ℕ) (y : ℕ) → AllByRecursion IsByte xs → IsByte y → AllByRecursion IsByte (xs ++ y ∷ [])
+all_push [] y all is = (is, tt)
+all_push (x ∷ xs) y all is = (all.0, all_push xs y all.1 is)
+
+-- a byte more
+pub byte_more : (old new text rest after : List ℕ) (b : ℕ) → HaveBytes old new text rest → b < 256 → rest ≡ byte_digits b ++ after
+    → HaveBytes old (new ++ b ∷ []) text after
+byte_more old new text rest after b have lt next = record {
+  piece = have.piece ++ b ∷ [];
+  each = all_push have.piece b have.each lt;
+  added = ap (λ (t : List ℕ). t ++ b ∷ []) have.added ∙ append_assoc old have.piece (b ∷ []);
+  so_far = have.so_far ∙ ap (λ (t : List ℕ). bytes_digits have.piece ++ t) next ∙ sym (append_assoc (bytes_digits have.piece) (byte_digits b) after)
+      ∙ ap (λ (t : List ℕ). t ++ after) (flat_map_more byte_digits [] have.piece b);
+}
+
+-- A line.
+
+digits_are : (bytes : List ℕ) → encode_lower bytes ≡ bytes_digits bytes
+unfolding encode_with
+digits_are [] = refl
+digits_are (b ∷ bytes) = λ i. digit (b / 16) ∷ digit (b % 16) ∷ digits_are bytes i
+
+pub line_splits : (piece rest : List ℕ) → image_line piece ++ rest ≡ codes "image " ++ (bytes_digits piece ++ 10 ∷ rest)
+unfolding image_line
+line_splits piece rest =
+    ap (λ (t : List ℕ). (codes "image " ++ (t ++ 10 ∷ [])) ++ rest) (digits_are piece)
+    ∙ ap (λ (t : List ℕ). codes "image " ++ t) (append_assoc (bytes_digits piece) (10 ∷ []) rest)
+
+pub no_word : (old new text : List ℕ) → Begins (codes "image ") text None → ReadsLine old new text None
+no_word old new text none = λ piece rest is e. none (bytes_digits piece ++ 10 ∷ rest) (e ∙ line_splits piece rest)
+
+-- what is known of a line that stands where bytes were read
+the_line : (old new text digits rest piece more : List ℕ) → text ≡ codes "image " ++ digits → (have : HaveBytes old new digits rest) → HasNoByte rest → IsPiece piece
+    → text ≡ image_line piece ++ more → (have.piece ≡ piece) × (rest ≡ 10 ∷ more)
+the_line old new text digits rest piece more word have none is e =
+    one_run have.piece piece rest more have.each is.each none (sym have.so_far ∙ ap (drop 6) (sym word ∙ e ∙ line_splits piece more))
+
+pub no_end : (old new text digits rest : List ℕ) → text ≡ codes "image " ++ digits → ReadsBytes old new digits rest → Begins (10 ∷ []) rest None
+    → ReadsLine old new text None
+no_end old new text digits rest word read none = λ piece more is e. none more (the_line old new text digits rest piece more word read.0 read.1 is e).1
+
+pub wrong_count : (old new text digits rest : List ℕ) → text ≡ codes "image " ++ digits → ReadsBytes old new digits rest
+    → (length new ≡ length old) ⊎ (64 < length new - length old) → ReadsLine old new text None
+wrong_count old new text digits rest word read wrong = λ piece more is e.
+    let same = ap length (the_line old new text digits rest piece more word read.0 read.1 is e).0 in
+    let added = ap length read.0.added ∙ length-append old read.0.piece in
+    elim wrong [
+      | inl none ↦ omega (arith, same, added, none, is.some)
+      | inr many ↦ omega (arith, same, added, many, is.few)
+    ]
+
+pub line_found : (old new text digits rest after : List ℕ) → text ≡ codes "image " ++ digits → ReadsBytes old new digits rest → rest ≡ 10 ∷ after
+    → (length new ≡ length old → ⊥) → length new - length old ≤ 64 → ReadsLine old new text (Some after)
+line_found old new text digits rest after word read end some few =
+    let have = read.0 in
+    let added = ap length have.added ∙ length-append old have.piece in
+    let more : 0 < length have.piece = omega (arith, added, some) in (
+      have.piece,
+      record { some = more; few = omega (arith, added, few); each = have.each },
+      have.added,
+      word ∙ ap (λ (t : List ℕ). codes "image " ++ t) (have.so_far ∙ ap (λ (t : List ℕ). bytes_digits have.piece ++ t) end) ∙ sym (line_splits have.piece after),
+    )

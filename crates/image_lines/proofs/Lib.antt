@@ -1,0 +1,3 @@
+pub mod DigitPairs
+pub mod LineRuns
+pub mod ReadBack
