@@ -121,7 +121,9 @@ impl<A: Allocator> Region<A> {
         ensures put { self.new ≡ slice_set self.old at bytes.now }
         ensures count { length self.new ≡ length self.old }
     {
-        *self.line_mut(at) = *bytes;
+        // The line is looked up before the bytes are read, so that they go straight into it.
+        let line = self.line_mut(at);
+        *line = *bytes;
     }
 
     /// Lends line `at`, which has to be there, for writing. What the borrower leaves is the line, and no

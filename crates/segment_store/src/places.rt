@@ -1,8 +1,8 @@
 //! Where the lines of segments stand in the region, and how they get their places.
-ghost use Rattle.std.specs.Prelude.{◌≡◌, ◌+◌, ◌-◌, ◌*◌, ◌^◌, ◌<◌, ◌≤◌, length};
+ghost use Rattle.std.specs.Prelude.{◌≡◌, ◌+◌, ◌-◌, ◌*◌, ◌^◌, ◌<◌, ◌≤◌, cond, length, nat_eq};
 ghost use Rattle.sizes.specs.declared.TheConstants.{PAGE_LINES};
 ghost use Rattle.overlay_bits.specs.Lines.{AreLines};
-ghost use Rattle.segment_store.specs.Pointers.{capacity_of};
+ghost use Rattle.segment_store.specs.Pointers.{capacity_of, slot_of};
 ghost use Rattle.segment_store.specs.Store.{place_in};
 ghost use Rattle.segment_store.specs.Places.{BeginsLines, HasBlock, HasFreeSlot, HasNoLine, IsApartFrom, LieIn, Reserves, LiftsLines, LaysLines, LaysOver, CopiesPage};
 
@@ -23,6 +23,20 @@ pub(crate) fn place(region: &StoreLines, block: Block, line: u8) -> u32
         return first + u32::from(line);
     }
     first + u32::from(pointers::slot(region.line(first), line))
+}
+
+/// The same, by the line of pointers, which is the first of the block's.
+#[inline(always)]
+fn place_by(pointers: &[u8; 64], block: Block, line: u8) -> u32
+    requires line { line < 64 }
+    requires low { 4 * block.unit + 64 < 2 ^ 32 }
+    ensures { result ≡ 4 * block.unit + cond (nat_eq block.order 4) line (slot_of pointers.now line) }
+{
+    let first = 4 * block.unit;
+    if block.order == 4 {
+        return first + u32::from(line);
+    }
+    first + u32::from(pointers::slot(pointers, line))
 }
 
 /// Begins an empty segment at a block: below order 4 with a line of pointers.
@@ -61,8 +75,9 @@ pub(crate) fn lift(region: &mut StoreLines, block: Block, bits: Bits)
     ensures are { AreLines bits }
     ensures lifts { LiftsLines (length region.old - PAGE_LINES) block bits region.old region.new }
 {
+    let pointers = *region.line(4 * block.unit);
     'lifting: for line in bits.iter() {
-        let at = place(region, block, line);
+        let at = place_by(&pointers, block, line);
         region.lift_line(at, line);
     }
 }
