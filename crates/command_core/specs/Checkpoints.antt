@@ -48,17 +48,13 @@ checkpoint_under next p name process registry =
 abbrev pub checkpoint_row : ℕ → List ℕ → Process → Registry → Row
 checkpoint_row p name process registry = checkpoint_under (next_number registry) p name process registry
 
--- the pages of a checkpoint that was found come in the place of a process's own
-abbrev pub restored_pages : ℕ → Option Checkpoint → Event
-restored_pages p found = option_map_or (λ x. Copy x.space p) found Other
-
--- and the process is what was kept
+-- the process is what was kept in a checkpoint that was found
 abbrev pub restored : ℕ → Option Checkpoint → Registry → Registry
 restored p found registry = option_map_or (λ x. leaves p (process_of x.whole) registry) found registry
 
 abbrev pub restores : ℕ → Bool → Option Checkpoint → Registry → Row
 restores p speculating found registry =
-    record (plain_row true (Some p) (by_speculating speculating ∷ refused_if (not (is_some found)) NoCheckpoint ∷ []) (restored_pages p found) (restored p found registry)) { memory = TakesLast }
+    record (plain_row true (Some p) (by_speculating speculating ∷ refused_if (not (is_some found)) NoCheckpoint ∷ []) (option_map_or (λ x. Copy x.space p) found Other) (restored p found registry)) { memory = TakesLast }
 
 -- `restore`: the process is what was kept, with a copy of the checkpoint's pages in the ledger in the place of its own
 abbrev pub restore_row : ℕ → List ℕ → Process → Registry → Row

@@ -81,14 +81,6 @@ told wants_memory changed = record { text = answer_text changed.answer; after = 
 abbrev pub text_printed : {S : Type 0} → Bool → List ℕ → S → Performed S
 text_printed wants_memory text state = record { text = text; after = state; wants_memory = wants_memory }
 
--- one thing after another
-abbrev pub then_performed : {S : Type 0} → Performed S → (S → Performed S) → Performed S
-then_performed first next = record {
-  text = first.text ++ (next first.after).text;
-  after = (next first.after).after;
-  wants_memory = first.wants_memory || (next first.after).wants_memory;
-}
-
 -- The rules of the copying machine: of a change and of a turn there may not be units enough.
 
 -- turns, with their lines
@@ -168,13 +160,10 @@ regs_of p (Some process) state = text_printed false (regs_text p process) state
 
 -- the lines of bytes of a memory from an address on, up to 16 a line; and those of words, as instructions, with extension M
 -- or without
-abbrev pub dump_row : Memory → ℕ → ℕ → List ℕ
-dump_row memory address count = dump_line address (bytes_at memory address (min ROW_BYTES count))
-
 unfoldable pub dump_from : ℕ → Memory → ℕ → ℕ → List ℕ
 dump_from zero memory address count = []
 dump_from (suc rows) memory address count =
-    dump_row memory address count ++ dump_from rows memory (address + ROW_BYTES) (count - ROW_BYTES)
+    dump_line address (bytes_at memory address (min ROW_BYTES count)) ++ dump_from rows memory (address + ROW_BYTES) (count - ROW_BYTES)
 
 abbrev pub dump_text : Memory → ℕ → ℕ → List ℕ
 dump_text memory address count = dump_from ((count + (ROW_BYTES - 1)) / ROW_BYTES) memory address count
@@ -215,7 +204,9 @@ module _ {S : Type 0} (by : Rules S) where
 
   abbrev pub exec_done : List ℕ → ℕ → S → Performed S
   exec_done file turns state =
-      then_performed (load_told file state) (exec_turns turns (by.change (load_row file (by.registry state)) state).answer)
+      let loaded = load_told file state in
+      let ran = exec_turns turns (by.change (load_row file (by.registry state)) state).answer loaded.after in
+      record { text = loaded.text ++ ran.text; after = ran.after; wants_memory = loaded.wants_memory || ran.wants_memory }
 
   -- the line of a load's answer, and the turns that follow it
   abbrev pub tells_exec : ℕ → Answer → S → Performed S

@@ -24,13 +24,11 @@ use Rattle.command_core.specs.ProcessChanges.{leaves, with_pages}
 abbrev pub poke_refused : Memory → ℕ → Code
 poke_refused memory at = if has_page memory (at / PAGE_BYTES) then Forbidden at else Unmapped at
 
-abbrev pub by_unwritable : ℕ → ℕ → Memory → Option Code
-by_unwritable address n memory = option_map (poke_refused memory) (first_denied memory writable address n)
-
 -- `poke`: a store of bytes, whatever state the process is in
 abbrev pub poke_row : ℕ → ℕ → List ℕ → Process → Registry → Row
 poke_row p address bytes process registry =
-    plain_row true None (by_unwritable address (length bytes) process.memory ∷ []) (event.Store (is_speculating process) p (touched address (length bytes)))
+    plain_row true None (option_map (poke_refused process.memory) (first_denied process.memory writable address (length bytes)) ∷ [])
+    (event.Store (is_speculating process) p (touched address (length bytes)))
     (leaves p (with_pages (with_bytes process.memory address bytes) process) registry)
 
 -- what is answered where bytes aren't stored

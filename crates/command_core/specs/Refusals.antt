@@ -34,23 +34,20 @@ lowest holds from (suc n) = if holds from then Some from else lowest holds (from
 abbrev pub has_page : Memory → ℕ → Bool
 has_page memory page = is_some (get memory page)
 
--- one of the n pages from an address on is there already, or isn't there: the address of the lowest
-abbrev pub by_mapped : ℕ → ℕ → Memory → Option Code
-by_mapped address n memory = option_map (λ page. Mapped (PAGE_BYTES * page)) (lowest (has_page memory) (address / PAGE_BYTES) n)
-
-abbrev pub by_missing : ℕ → ℕ → Memory → Option Code
-by_missing address n memory = option_map (λ page. Unmapped (PAGE_BYTES * page)) (lowest (λ page. not (has_page memory page)) (address / PAGE_BYTES) n)
-
--- why pages aren't mapped, and why they aren't given up
+-- Why pages aren't mapped, and why they aren't given up: at last, the lowest of the n pages from an address on that is there already, or
+-- that isn't there.
 abbrev pub place_refusals : Bool → Bool → Option Code → List (Option Code)
 place_refusals speculating outside page = by_speculating speculating ∷ refused_if outside Outside ∷ page ∷ []
 
 abbrev pub map_refusals : ℕ → ℕ → Bool → Memory → List (Option Code)
 map_refusals address n speculating memory =
-    place_refusals speculating (lie_outside address n || are_too_many memory n) (by_mapped address n memory)
+    place_refusals speculating (lie_outside address n || are_too_many memory n)
+    (option_map (λ page. Mapped (PAGE_BYTES * page)) (lowest (has_page memory) (address / PAGE_BYTES) n))
 
 abbrev pub unmap_refusals : ℕ → ℕ → Bool → Memory → List (Option Code)
-unmap_refusals address n speculating memory = place_refusals speculating (lie_outside address n) (by_missing address n memory)
+unmap_refusals address n speculating memory =
+    place_refusals speculating (lie_outside address n)
+    (option_map (λ page. Unmapped (PAGE_BYTES * page)) (lowest (λ page. not (has_page memory page)) (address / PAGE_BYTES) n))
 
 -- there is no next number; and the number that there is
 abbrev pub by_numbers_used : Option ℕ → Option Code

@@ -143,11 +143,8 @@ ran_by rules (suc left) state run =
     (turns_by (rules.turn state) (rules.after state) (rules.next state run.order) (λ p. ran_by rules left (rules.after state p) (run_after p run)) state run) state run
 
 -- those of the copying machine, of which a turn may be full
-abbrev pub turn_rules : Breaks → TurnRules Wholes
-turn_rules breaks = record { next = next_of; broken = last_break breaks; turn = turn_of; after = after_turn }
-
 abbrev pub ran : Breaks → ℕ → Wholes → Progress → Ran Wholes
-ran breaks left state run = ran_by (turn_rules breaks) left state run
+ran breaks left state run = ran_by (record { next = next_of; broken = last_break breaks; turn = turn_of; after = after_turn }) left state run
 
 -- all that are left of a run
 abbrev pub ran_from : Breaks → Wholes → Progress → Ran Wholes

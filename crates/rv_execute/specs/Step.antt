@@ -70,11 +70,9 @@ altered number Asks regs memory accesses =
 altered number (Faults kind address) regs memory accesses =
     record { registers = regs; memory = memory; turn = Faulted kind address; accesses = accesses }
 
-abbrev pub step_from : ℕ → Execution → Step
-step_from number e = altered number e.upshot e.registers e.memory (map access_of e.calls)
-
 abbrev pub step_by : InstructionTable → ℕ → Registers → Memory → Step
-step_by table number regs memory = step_from number (execution_by table regs memory)
+step_by table number regs memory =
+    let e = execution_by table regs memory in altered number e.upshot e.registers e.memory (map access_of e.calls)
 
 -- by the table of RV64I
 abbrev pub step : ℕ → Registers → Memory → Step
