@@ -5,7 +5,7 @@ use Rattle.machine_core.specs.Machine.{Machine, Wholes, spaces_of, with_extensio
 use Rattle.command_core.specs.declared.checkpoints.Kept.{Kept}
 use Rattle.command_core.specs.declared.modes.Modes.{Modes}
 use Rattle.command_core.specs.Kept.{checkpoints_in, shown_session}
-use Rattle.command_core.specs.Sessions.{IsSession, bases_of, extended_session}
+use Rattle.command_core.specs.Sessions.{IsSession, bases_of, extended_session, free_blocks_of}
 use Rattle.command_core.specs.State.{AreLikeStates, State, extended}
 
 -- A session that has extension M, or has it not.
@@ -18,6 +18,7 @@ module _ (machine : Machine) (on : Bool) where
         state = record { wholes = w; checkpoints = checkpoints_in (spaces_of machine) xs; breakpoints = breaks };
         modes = record modes { extension = on };
         bases = bases_of (spaces_of machine);
+        free_blocks = free_blocks_of machine.memory.pages.store.blocks;
       }) (wholes_extended machine on)
 
   pub session_extended : (spaces : List ℕ) (numbers : List (List ℕ)) → IsSession machine spaces numbers → IsSession (with_extension_at machine on) spaces numbers
