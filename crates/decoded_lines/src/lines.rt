@@ -81,9 +81,11 @@ impl<D: Decoder> DecodedLines<D> {
             → slice_index_or self.new slot [] ≡ slice_index_or self.old slot [] }
     {
         let slot = (number % KEPT_LINES as u64) as usize;
-        if self.lines[slot] != *line {
-            self.change(slot, line);
+        // `==` is code of the place where it stands, and `!=` a call
+        if self.lines[slot] == *line {
+            return;
         }
+        self.change(slot, line);
     }
 
     /// Has another line in a slot.
