@@ -5,8 +5,9 @@
 #   examples/check.sh PROGRAM                 with another program
 #   examples/check.sh --rebuilt [PROGRAM]     and then once more with the programs as each RISC-V compiler that is there builds them
 #
-# An example is a folder with a file `script` and a file `report`: the script is run in that folder. Or it is a folder with a file
-# NAME.words and a file NAME.report for each of its runs: the program gets these words, one a line, and nothing on standard input.
+# An example is a folder with a file `script` and a file `report`: the script is run in that folder, with the words of the file `words`,
+# one a line, where there is one. Or it is a folder with a file NAME.words and a file NAME.report for each of its runs: the program gets
+# these words, and nothing on standard input.
 #
 # A built program has its own number of instructions. So the reports of rebuilt ones are compared without T of `ran T ended`, `ran T idle`
 # and `ran T break`, and without the hits and misses of `stats`; all else has to be the same. They are built in a folder of their own, at
@@ -73,16 +74,20 @@ count_rebuilt() {
 # Where the answers of the exercises were taken away, the examples alone are run.
 [ -d "$top/lab/answers" ] || echo "no lab/answers here: the exercises aren't run"
 
+# Runs the script of a folder, with its words. A word has no blank in it and no pattern, so it may stand without quotes.
+run_script() {
+    (cd "$1" && "$program" $([ ! -f words ] || cat words) < script)
+}
+
 for script in "$here"/*/script "$top"/lab/answers/*/script; do
     [ -f "$script" ] || continue
     folder=$(dirname "$script")
-    given=$(cd "$folder" && "$program" < script && echo x)
+    given=$(run_script "$folder" && echo x)
     count "${folder#"$top"/}" "$folder/report" "$given"
 done
 
 for words in "$here"/*/*.words; do
     run=${words%.words}
-    # A word has no blank in it and no pattern, so it may stand without quotes.
     given=$("$program" $(cat "$words") < /dev/null && echo x)
     count "${run#"$top"/}" "$run.report" "$given"
 done
@@ -145,7 +150,7 @@ rebuild() {
         folder=$(dirname "$script")
         name=${folder#"$built"/}
         [ "$name" = examples/debugger ] && continue
-        given=$(cd "$folder" && "$program" < script && echo x)
+        given=$(run_script "$folder" && echo x)
         count_rebuilt "$name, $compiler $level" "$folder/report" "$given"
     done
 }
