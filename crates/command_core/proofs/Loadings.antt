@@ -103,7 +103,3 @@ module _ (file : List ℕ) (old new : Machine) (kept : List Checkpoint) (breaks 
   pub session_other : (e : SpaceError) → Loads p file old new (Err e) → KeepsSession old new
   session_other (error.Full needed limit) (needed_is, limit_is, full, same) = keeps_same old new same
   session_other error.Memory (fits, same) = keeps_before old new same
-
-pub told_other : (e : SpaceError) (s : State) → RunsLoaded (answer_of e) s
-told_other (error.Full units limit) s = tt
-told_other error.Memory s = tt

@@ -156,26 +156,8 @@ run_ended breaks start processes first now found none is said why below =
     let all = left_all breaks processes now none ∙ ran_ended breaks processes now.run ends.0 below ends.1 in
     (ends.0, is ∙ ends.1, subst (λ (r : Ran Wholes). SaysThen [] (left_of breaks start first) r) all said)
 
--- one that had ended before
-pub ended_before : (breaks : Breaks) (processes : Wholes) (running : InRun) (stop : Stop) → running.stop ≡ Some stop → EndsRun breaks processes running processes running
-ended_before breaks processes running stop is =
-    let left = ap (λ (o : Option Stop). left_by o breaks processes running.run) is in
-    (stop, is, subst (λ (r : Ran Wholes). SaysThen [] (left_of breaks processes running) r) left (said_none (left_of breaks processes running)))
-
 pub limit_is : (processes : Wholes) (run : Progress) (p : ℕ) → next_of processes run.order ≡ Some p → nat_lt run.taken run.turns ≡ false
     → run.taken ≤ run.turns → Some Limit ≡ ending_by (next_of processes run.order) run
 limit_is processes run p next none below =
     let all : (run.taken == run.turns) ≡ true = grind (arith, nat_tests, none, below) in
     sym (ap (λ n. ending_by n run) next ∙ ap (λ (b : Bool). cond b (Some Limit) None) all)
-
--- a turn is left where no ending holds
-pub unended : (processes : Wholes) (run : Progress) (p : ℕ) (found : Option Stop) → found ≡ ending_by (next_of processes run.order) run → found ≡ None
-    → next_of processes run.order ≡ Some p → run.taken ≤ run.turns → run.taken < run.turns
-unended processes run p found is none next below = by_test (run.taken == run.turns) refl
-  where
-    ends : cond (run.taken == run.turns) (Some Limit) None ≡ None
-    ends = sym (ap (λ n. ending_by n run) next) ∙ sym is ∙ none
-
-    by_test : (b : Bool) → (run.taken == run.turns) ≡ b → run.taken < run.turns
-    by_test true same = let no_limit : Some Limit ≡ None = sym (ap (λ (b : Bool). cond b (Some Limit) None) same) ∙ ends in cc
-    by_test false other = grind (arith, nat_tests, other, below)

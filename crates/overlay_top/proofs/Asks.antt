@@ -39,11 +39,6 @@ fetches_next fetched names index name a b c below is so_far next =
     subst (λ ns. AsksFor fetched ns a c) (sym (names_more names index name below is))
     (fetches_append fetched (named (take index names)) (named (name ∷ [])) a b c so_far next)
 
--- one name, asked for once
-pub fetches_one : {H : Type 0} (fetched : H → List ℕ → H → Type 0) (name : Option (List ℕ)) (one : List ℕ) (a b : H) → Some one ≡ name → fetched a one b
-    → AsksFor fetched (named (name ∷ [])) a b
-fetches_one fetched name one a b is once = subst (λ n. AsksFor fetched (named (n ∷ [])) a b) is (b, once, refl)
-
 -- all names, whatever number of them is taken beyond the last
 pub fetches_all : {H : Type 0} (fetched : H → List ℕ → H → Type 0) (names : List (Option (List ℕ))) (index many : ℕ) (a b : H)
     → length names ≤ index → length names ≤ many → AsksFor fetched (named (take index names)) a b → AsksFor fetched (named (take many names)) a b

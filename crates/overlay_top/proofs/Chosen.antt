@@ -36,13 +36,6 @@ ends_made s h k outcome names old new _ calm still other (ShelfFailed j name wit
 ends_made s h k outcome names old new _ calm still other (SinkFailed j within source shelf rose taken asked cut) = MadeSinkFailed j within rose cut
 ends_made s h k outcome names old new _ calm still other (OutOfMemory j begun within few source shelf sink asked first) = MadeOutOfMemory j begun within few sink first
 
-pub never_read : {S H K : Type 0} (s : SourceOf S) (h : ShelfOf H) (old new : World S H K) → (SourceRose s old.script new.script → ⊥) → (ShelfRose h old.files new.files → ⊥)
-    → (WasRefused h new.files shelf.Missing → ⊥) → ReadCaused s h old new → ⊥
-never_read s h old new calm still has caused = elim caused [
-  | inl source ↦ calm source.0
-  | inr others ↦ elim others [ inl shelf ↦ still shelf.1 | inr missing ↦ has missing.2 ]
-]
-
 -- what is chosen, where the seed is this
 pub outcome_made : (set : Settings) (left file script made : List ℕ) → left ≡ script → file ≡ made
     → said_outcome set (said left) (λ name. Some file) ≡ said_outcome set (said script) (λ name. Some made)

@@ -22,8 +22,5 @@ back TooLong = refl
 pub same_status : (number : ℕ) (status other : Status) → number ≡ code_of status → number ≡ code_of other → status ≡ other
 same_status number status other is also = sym (back status) ∙ ap status_at (sym is ∙ also) ∙ back other
 
-pub other_status : (number : ℕ) (status other : Status) → number ≡ code_of status → (number ≡ code_of other → ⊥) → status ≡ other → ⊥
-other_status number status other is not same = not (is ∙ ap code_of same)
-
 pub other_number : (number : ℕ) (status : Status) → number ≡ code_of status → (status ≡ ReadFailed → ⊥) → number ≡ 3 → ⊥
 other_number number status is not three = not (same_status number status ReadFailed is three)

@@ -26,25 +26,6 @@ given_is row old (Refused code) new gives other = gives
 given_is row old (Full units limit) new gives other = gives
 given_is row old Memory new gives other = absurd (other refl)
 
--- its line, or nothing for want of memory
-pub tells_row : {K : Type 0} (k : SinkOf K) (row : Row) (old : State) (answer : Answer) (new : State) (sink_old sink_new : K) (r : Result (Unit {0}) Halt)
-    → GivesChange row old answer new → TellsAnswer k answer sink_old sink_new r → EndsCommand k sink_old sink_new (row_told rules row old) new r
-tells_row k row old answer new sink_old sink_new (Ok unit) gives (other, sound, sent) =
-    let comes = given_is row old answer new gives other in (
-      sound,
-      λ tells. subst (λ a. IsSent (k.taken sink_old) (answer_text a) (k.taken sink_new)) comes.answer_is (sent tells),
-      comes.after_is,
-    )
-tells_row k row old answer new sink_old sink_new (Err halt.SendFailed) gives (other, rose, cut) =
-    let comes = given_is row old answer new gives other in
-    (rose, λ tells. subst (λ a. IsCut (k.taken sink_old) (answer_text a) (k.taken sink_new)) comes.answer_is (cut tells))
-tells_row k row old answer new sink_old sink_new (Err halt.Memory) gives (is, same) =
-    let wants = subst (λ a. GivesChange row old a new) is gives in
-    (ap k.faults same, λ tells. ap k.taken same, wants.0)
-tells_row k row old answer new sink_old sink_new (Err halt.Missing) gives h = absurd h
-tells_row k row old answer new sink_old sink_new (Err halt.FetchFailed) gives h = absurd h
-tells_row k row old answer new sink_old sink_new (Err halt.TooLong) gives h = absurd h
-
 -- a load's line and the turns that follow it are those of what it was to give
 pub exec_like : (file : List ℕ) (turns : ℕ) (old : State) (answer : Answer) (new : State) → GivesChange (load_row file (registry_of old)) old answer new → (answer ≡ Memory → ⊥)
     → AreLikePerformed (tells_exec rules turns answer new) (exec_done rules file turns old)
