@@ -118,14 +118,14 @@ pub not_in : (xs : List ℕ) (p : ℕ) → ((j : ℕ) → j < length xs → get_
 not_in [] p h = refl
 not_in (x ∷ xs) p h = ap (λ b. b || is_in xs p) (other_is x p (h 0 (omega arith))) ∙ not_in xs p (λ j below. h (suc j) (omega arith))
 
+later : (b c : Bool) → c ≡ true → (b || c) ≡ true
+later true c h = refl
+later false c h = h
+
 pub found_in : (xs : List ℕ) (i p : ℕ) → i < length xs → get_or xs i 0 ≡ p → is_in xs p ≡ true
 found_in [] i p within is = absurd (omega arith)
 found_in (x ∷ xs) zero p within is = ap (λ b. b || is_in xs p) (same_is x p is)
-found_in (x ∷ xs) (suc i) p within is = ap (λ b. (x == p) || b) (found_in xs i p (omega arith) is) ∙ last (x == p)
-  where
-    last : (b : Bool) → (b || true) ≡ true
-    last true = refl
-    last false = refl
+found_in (x ∷ xs) (suc i) p within is = later (x == p) (is_in xs p) (found_in xs i p (omega arith) is)
 
 either_true : (b c : Bool) → b ≡ true → (b || c) ≡ true
 either_true true c h = refl
@@ -136,11 +136,7 @@ pub few : (k n : ℕ) (xs : List ℕ) → Rises k xs → k ≤ n → ((q : ℕ) 
 few k n [] h low below = omega arith
 few k n (x ∷ xs) h low below =
     let small : x < n = below x (ap (λ b. b || is_in xs x) (same_is x x refl)) in
-    omega (arith, h.0, few (suc x) n xs h.1 (omega (arith, small)) (λ q is. below q (ap (λ b. (x == q) || b) is ∙ last (x == q))))
-  where
-    last : (b : Bool) → (b || true) ≡ true
-    last true = refl
-    last false = refl
+    omega (arith, h.0, few (suc x) n xs h.1 (omega (arith, small)) (λ q is. below q (later (x == q) (is_in xs q) is)))
 
 -- and fewer where one more is below it
 pub fewer : (k n p : ℕ) (xs : List ℕ) → Rises k xs → k ≤ p → p < n → is_in xs p ≡ false → ((q : ℕ) → is_in xs q ≡ true → q < n) → k + length xs < n
@@ -154,10 +150,6 @@ fewer k n p (x ∷ xs) h low small absent below = elim (cases_order x p) [
     second : (b c : Bool) → (b || c) ≡ false → c ≡ false
     second true c h = cc
     second false c h = h
-
-    later : (b c : Bool) → c ≡ true → (b || c) ≡ true
-    later true c h = refl
-    later false c h = h
 
 -- numbers that rise are told by which they are
 not_less : (x y : ℕ) (xs ys : List ℕ) → Rises (suc y) ys → is_in (x ∷ xs) x ≡ is_in (y ∷ ys) x → x < y → ⊥

@@ -11,21 +11,8 @@ use crate::pointers;
 use overlay_bits::Bits;
 use unit_map::Block;
 
-/// Where a line of the segment at a block stands.
-#[inline]
-pub(crate) fn place(region: &StoreLines, block: Block, line: u8) -> u32
-    requires line { line < 64 }
-    requires block { HasBlock region.now block }
-    ensures { result ≡ place_in region.now block.unit block.order line }
-{
-    let first = 4 * block.unit;
-    if block.order == 4 {
-        return first + u32::from(line);
-    }
-    first + u32::from(pointers::slot(region.line(first), line))
-}
-
-/// The same, by the line of pointers, which is the first of the block's.
+/// Where a line of the segment at a block stands, by the first line of the block, which below order 4 is the line of
+/// pointers.
 #[inline(always)]
 fn place_by(pointers: &[u8; 64], block: Block, line: u8) -> u32
     requires line { line < 64 }
@@ -37,6 +24,16 @@ fn place_by(pointers: &[u8; 64], block: Block, line: u8) -> u32
         return first + u32::from(line);
     }
     first + u32::from(pointers::slot(pointers, line))
+}
+
+/// Where a line of the segment at a block stands.
+#[inline]
+pub(crate) fn place(region: &StoreLines, block: Block, line: u8) -> u32
+    requires line { line < 64 }
+    requires block { HasBlock region.now block }
+    ensures { result ≡ place_in region.now block.unit block.order line }
+{
+    place_by(region.line(4 * block.unit), block, line)
 }
 
 /// Begins an empty segment at a block: below order 4 with a line of pointers.
