@@ -7,6 +7,5 @@ pub mod Ordering
 pub mod Blocks
 pub mod Ends
 pub mod Tables
-pub mod Fills
 pub mod Seen
 pub mod Laid

@@ -5,7 +5,7 @@ use Rattle.std.proofs.lemmas.Bool.Decides.{nat_tests}
 use Rattle.std.proofs.lemmas.List.{get_or_default, get_or-set_same, get_or-set_other, get_or_past, length-set, same_lists}
 use Rattle.std.proofs.lemmas.List.FromFn.{length-map-range_with_len, get_or-map-range_with_len}
 use Rattle.overlay_mapping_table.specs.declared.gaps.Gap.{Gap}
-use Rattle.overlay_mapping_table.specs.Shifts.{AreCopied}
+use Rattle.filled_list.specs.Copied.{AreCopied}
 use Rattle.overlay_mapping_table.specs.Gaps.{seen_slots, seen_at, AreDown, AreFilled, AreUp, IsGapIn, IsShifted, IsWrittenAt}
 
 -- What is seen of lists with a gap.

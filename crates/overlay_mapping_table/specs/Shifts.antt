@@ -5,13 +5,6 @@ use Rattle.overlay_mapping_table.specs.Rows.{ring, StandOnce, HasWay}
 
 -- Rows that move by one place.
 
--- elements from one place on stand from another one on too, and the others stay
-pub record AreCopied {X : Type 0} (old new : List X) (from to n : ℕ) : Type 0 where
-  pub size : length new ≡ length old
-  pub copied : (i : ℕ) (d : X) → to ≤ i → i < to + n → get_or new i d ≡ get_or old (from + (i - to)) d
-  pub below : (i : ℕ) (d : X) → i < to → get_or new i d ≡ get_or old i d
-  pub above : (i : ℕ) (d : X) → to + n ≤ i → get_or new i d ≡ get_or old i d
-
 -- what the slots before another one have stands one slot further on, and the slots on either side have the same
 pub record AreOneUp (old new : List (Option (ℕ × Entry))) (from end : ℕ) : Type 0 where
   pub size : length new ≡ length old

@@ -1,7 +1,7 @@
 ghost use Rattle.std.specs.Prelude.{◌≡◌, ◌<◌, ◌≤◌, ◌+◌, length, get_or};
 ghost use Rattle.overlay_mapping_table.specs.Gaps.{no_gap, seen_slots, AreFilled, IsGapIn, IsShifted, IsWrittenAt};
 
-use crate::filled::Filled;
+use filled_list::Filled;
 
 // A stretch of elements, from `at` to `end`, that are written `len` places further on than their numbers say. So nothing
 // is written for the `len` elements behind it.

@@ -1,7 +1,7 @@
 ghost use Rattle.std.specs.Prelude.{◌≤◌};
 ghost use Rattle.std.specs.Int.{IsPowerOfTwo};
 
-use crate::filled::Filled;
+use filled_list::Filled;
 use crate::places::{home, way};
 use overlay_address::OverlayPage;
 use std::alloc::{AllocError, Global};

@@ -5,7 +5,6 @@
 //!
 //! - `entry`: what a name has
 //! - `full`: places known to have rows
-//! - `filled`: lists whose elements are alike until they are written
 //! - `gaps`: lists of which a stretch is written further on than its numbers say
 //! - `moves`: names and entries that move beside each other
 //! - `slots`: names and entries by slot
@@ -17,7 +16,6 @@
 #![tactic(auto)]
 
 mod entry;
-mod filled;
 mod full;
 mod gaps;
 mod guesses;

@@ -11,7 +11,7 @@ use Rattle.ovl_io.specs.declared.perms.Perms.{Perms}
 use Rattle.ovl_io.specs.Memory.{bytes_at}
 use Rattle.overlay_memory.specs.Access.{IsFoundIn}
 use Rattle.overlay_memory.specs.Code.{IsCodeLine}
-use Rattle.overlay_memory.specs.Fronts.{AreFronts, IsClear, IsHead, head_of, held_of, with_head}
+use Rattle.overlay_memory.specs.Fronts.{AreFronts, AreSeen, IsClear, IsHead, head_of, held_of, seen_at, with_head}
 use Rattle.overlay_memory.specs.Pieces.{IsLacking, IsPermitted}
 use Rattle.overlay_memory.proofs.Counting.{allows_is}
 use Rattle.overlay_memory.proofs.Pieced.{found_piece}
@@ -20,6 +20,7 @@ use Rattle.overlay_memory.specs.PageLaws.{some_is}
 use Rattle.overlay_memory.specs.StateMemory.{memory_at}
 use Rattle.overlay_memory.specs.View.{AreTrue, cached_in, cached_page, cached_view}
 use Rattle.overlay_memory.specs.declared.fronts.Fronts.{Fronts}
+use Rattle.overlay_memory.specs.declared.fronts.TheConstants.{SEEN_PAGES}
 use Rattle.overlay_pages.specs.Spots.{FindsPage, IsBroughtTo, IsFoundAt, IsFoundPage, IsFoundPageAt}
 use Rattle.overlay_pages.specs.State.{PageState, State, memory_of, seen_page}
 use Rattle.overlay_pages.specs.View.{IsJoined, MemoryView, page_state, state_of}
@@ -38,7 +39,7 @@ use Rattle.translation_cache.specs.Translations.{Translations, found, no_transla
 use Rattle.translation_cache.specs.declared.TheConstants.{SETS}
 use Rattle.translation_cache.specs.declared.cached.Cached.{Cached}
 
--- What is known of pages at the front of their lists stays true.
+-- What is known of pages at the front of their lists, and of those that were found before, stays true.
 
 -- nothing is
 none_at : (n set : ℕ) → get_or {A = Option FoundPage} (replicate n None) set None ≡ None
@@ -49,8 +50,12 @@ none_at (suc n) (suc set) = none_at n set
 -- so whatever memories are, they may be known so
 pub none_known : (view : MemoryView) (t : BareTranslations) (fronts : Fronts) → IsClear fronts → AreFronts view t fronts
 none_known view t fronts is = record {
-  count = ap length is;
-  heads = λ set found at. absurd (none-some found (sym (none_at SETS set) ∙ sym (ap (λ heads. get_or heads set None) is) ∙ at));
+  count = ap length is.0;
+  heads = λ set found at. absurd (none-some found (sym (none_at SETS set) ∙ sym (ap (λ heads. get_or heads set None) is.0) ∙ at));
+  seen = record {
+    count = ap length is.1;
+    pages = λ place found at. absurd (none-some found (sym (none_at SEEN_PAGES place) ∙ sym (ap (λ seen. get_or seen place None) is.1) ∙ at));
+  };
 }
 
 -- hits are counted
@@ -61,6 +66,7 @@ pub hits_fronts : (view : MemoryView) (t u : BareTranslations) (n : ℕ) (fronts
 hits_fronts view t u n fronts is are = subst (λ (w : BareTranslations). AreFronts view w fronts) (sym is) (record {
   count = are.count;
   heads = λ set found at. let head = are.heads set found at in (head.0, head_hits view.table t n found head.1);
+  seen = are.seen;
 })
 
 pub hits_true : (v : State) (t u : Translations Cached) (n : ℕ) → u ≡ with_hits n t → AreTrue v t → AreTrue v u
@@ -73,6 +79,24 @@ filled_fronts old new t fronts table are = record {
   heads = λ set found at.
       let head = are.heads set found at in
       (head.0, record { is = subst (λ (v : LedgerView). IsFoundPage v found) (sym table) head.1.is; front = head.1.front });
+  seen = subst (λ (v : LedgerView). AreSeen v fronts.seen) (sym table) are.seen;
+}
+
+-- A page is put in the place of those that were found: it is as the tables have it, and so are still those at other places.
+put_seen : (old new : LedgerView) (seen : List (Option FoundPage)) (p : ℕ) (result : Option FoundPage) → AreSeen old seen
+    → ((found : FoundPage) → result ≡ Some found → (found.page ≡ p) × IsFoundPage new found)
+    → ((found : FoundPage) → (found.page % SEEN_PAGES ≡ p % SEEN_PAGES → ⊥) → IsFoundPage old found → IsFoundPage new found)
+    → AreSeen new (slice_set seen (p % SEEN_PAGES) result)
+put_seen old new seen p result are here beside = record {
+  count = length-set seen (p % SEEN_PAGES) result ∙ are.count;
+  pages = λ place found at. by_key place (p % SEEN_PAGES)
+      (λ same.
+      let one = here found (sym (get_or-set_same seen (p % SEEN_PAGES) result None (omega (arith, are.count)))
+      ∙ ap (λ n. get_or (slice_set seen (p % SEEN_PAGES) result) n None) (sym same) ∙ at) in
+      (ap (λ n. n % SEEN_PAGES) one.0 ∙ sym same, one.1))
+      (λ other.
+      let one = are.pages place found (sym (get_or-set_other seen (p % SEEN_PAGES) place result None other) ∙ at) in
+      (one.0, beside found (λ e. other (sym one.0 ∙ e)) one.1));
 }
 
 -- What was found of a page.
@@ -119,6 +143,11 @@ module _ (view : MemoryView) (s p : ℕ) (found : FoundPage) (t : BareTranslatio
   known_translated u is =
       is ∙ sym (translated_front s p (memory_of (state_of view) s) t (subst (λ n. IsFront s n t) so.1 (subst (λ n. IsFront n found.page t) so.0 known_head.front)))
 
+-- A page that was found before is as the tables have it.
+pub seen_found : (view : MemoryView) (s p : ℕ) (found : FoundPage) (fronts : Fronts) → AreSeen view.table fronts.seen
+    → (found.space ≡ s) × (found.page ≡ p) × (seen_at fronts p ≡ Some found) → IsFoundPageAt view s p found
+seen_found view s p found fronts are so = record { space_is = so.0; page_is = so.1; is = (are.pages (p % SEEN_PAGES) found so.2).1 }
+
 -- A page that was translated is at the front of its list.
 
 module _ (view : MemoryView) (s p : ℕ) (result : Option FoundPage) (t u : BareTranslations) (fronts : Fronts) (finds : FindsPage view s p result)
@@ -163,6 +192,8 @@ module _ (view : MemoryView) (s p : ℕ) (result : Option FoundPage) (t u : Bare
         let one = here found (sym (get_or-set_same fronts.heads (p % SETS) result None (omega (arith, are.count))) ∙ ap (λ n. get_or left.heads n None) (sym same) ∙ at) in
         (one.0 ∙ sym same, one.1))
         (λ other. beside set found other (sym (get_or-set_other fronts.heads (p % SETS) set result None other) ∙ at));
+    seen = put_seen view.table view.table fronts.seen p result are.seen
+        (λ found some. let at : IsFoundPageAt view s p found = subst (FindsPage view s p) some finds in (at.page_is, at.is)) (λ found other is. is);
   }
 
 -- A page that was found: what holds of a line of it holds of that of the address, and whether it may be used so.
@@ -215,6 +246,9 @@ brought_fronts old new t fronts page found line p are front to p_is = record {
           front = head.1.front;
         },
       ));
+  seen = put_seen old.table new.table fronts.seen p (Some found) are.seen
+      (λ other some. subst (λ (f : FoundPage). (f.page ≡ p) × IsFoundPage new.table f) (some_is found other some) (p_is, to.is))
+      (λ other apart is. to.others other (λ ss pp. apart (ap (λ n. n % SEEN_PAGES) (pp ∙ sym to.page_is ∙ p_is))) is);
 }
 
 -- The line of an address, whole.

@@ -1,5 +1,6 @@
-use Rattle.std.specs.Prelude.{◌≡◌, ℕ, ◌%◌, length, replicate, slice_index_or, slice_set, Option, Some, None}
+use Rattle.std.specs.Prelude.{◌≡◌, ℕ, ◌%◌, List, length, replicate, slice_index_or, slice_set, Option, Some, None}
 use Rattle.overlay_memory.specs.declared.fronts.Fronts.{Fronts}
+use Rattle.overlay_memory.specs.declared.fronts.TheConstants.{SEEN_PAGES}
 use Rattle.overlay_pages.specs.Spots.{IsFoundPage}
 use Rattle.overlay_pages.specs.View.{MemoryView}
 use Rattle.overlay_pages.specs.declared.spots.FoundPage.{FoundPage}
@@ -13,15 +14,22 @@ use Rattle.translation_cache.specs.declared.cached.Cached.{Cached}
 
 -- nothing
 abbrev pub IsClear : Fronts → Type 0
-IsClear fronts = fronts.heads ≡ replicate SETS None
+IsClear fronts = (fronts.heads ≡ replicate SETS None) × (fronts.seen ≡ replicate SEEN_PAGES None)
 
 -- what is known of the list of a page
 abbrev pub head_of : Fronts → ℕ → Option FoundPage
 head_of fronts page = slice_index_or fronts.heads (page % SETS) None
 
--- another page is at the front of its list
+-- what is known at the place of a page, of those that were found before
+abbrev pub seen_at : Fronts → ℕ → Option FoundPage
+seen_at fronts page = slice_index_or fronts.seen (page % SEEN_PAGES) None
+
+-- another page is at the front of its list, and was found
 abbrev pub with_head : ℕ → Option FoundPage → Fronts → Fronts
-with_head page found fronts = record { heads = slice_set fronts.heads (page % SETS) found }
+with_head page found fronts = record {
+  heads = slice_set fronts.heads (page % SETS) found;
+  seen = slice_set fronts.seen (page % SEEN_PAGES) found;
+}
 
 -- what was found of a page, as its entry holds it
 abbrev pub held_of : FoundPage → Cached
@@ -32,6 +40,12 @@ pub record IsHead (table : LedgerView) (t : BareTranslations) (found : FoundPage
   pub is : IsFoundPage table found
   pub front : IsFront found.space found.page t
 
+-- a page that was found is as the tables have it, wherever it is in its list
+pub record AreSeen (table : LedgerView) (seen : List (Option FoundPage)) : Type 0 where
+  pub count : length seen ≡ SEEN_PAGES
+  pub pages : (place : ℕ) (found : FoundPage) → slice_index_or seen place None ≡ Some found → (found.page % SEEN_PAGES ≡ place) × IsFoundPage table found
+
 pub record AreFronts (view : MemoryView) (t : BareTranslations) (fronts : Fronts) : Type 0 where
   pub count : length fronts.heads ≡ SETS
   pub heads : (set : ℕ) (found : FoundPage) → slice_index_or fronts.heads set None ≡ Some found → (found.page % SETS ≡ set) × IsHead view.table t found
+  pub seen : AreSeen view.table fronts.seen

@@ -1,16 +1,22 @@
-//! What stands first: of each list of translations the page at its front, as the tables have it.
+//! What is known of pages, as the tables have them: of each list of translations the page at its front, and pages that were found before.
 
 ghost use Rattle.std.specs.Prelude.{◌≡◌, ◌%◌, ◌<◌, IfSome, Some};
-ghost use Rattle.overlay_memory.specs.Fronts.{IsClear, head_of, with_head};
+ghost use Rattle.overlay_memory.specs.Fronts.{IsClear, head_of, seen_at, with_head};
+ghost use Rattle.overlay_memory.specs.declared.fronts.TheConstants.{SEEN_PAGES};
 ghost use Rattle.translation_cache.specs.declared.TheConstants.{SETS};
 
 use overlay_pages::FoundPage;
 use translation_cache::SETS;
 
-/// What is known of pages at the front of their lists. It changes no answer, and no count: an access to such a page looks at no table.
+/// How many pages are known of those that were found, a place for each remainder of their numbers: as many as translations are kept.
+pub(crate) const SEEN_PAGES: usize = 64;
+
+/// What is known of pages at the front of their lists, and of others. It changes no answer, and no count: an access to the first looks at
+/// no table, and one to the others at their list alone.
 #[derive(Drop)]
 pub(crate) struct Fronts {
     heads: [Option<FoundPage>; SETS],
+    seen: [Option<FoundPage>; SEEN_PAGES],
 }
 
 /// The list of a page.
@@ -22,6 +28,33 @@ fn set_of(page: u64) -> usize
     (page % SETS as u64) as usize
 }
 
+/// The place of a page among those that were found.
+#[inline(always)]
+fn place_of(page: u64) -> usize
+    ensures place { result ≡ page % SEEN_PAGES }
+    ensures inside { result < SEEN_PAGES }
+{
+    (page % SEEN_PAGES as u64) as usize
+}
+
+/// A page, where it is that of this number and space.
+#[inline(always)]
+fn if_same(known: &Option<FoundPage>, space: u16, page: u64) -> Option<&FoundPage>
+    ensures { IfSome result (λ found. (found.now.space ≡ space) × (found.now.page ≡ page)
+        × (known.now ≡ Some found.now)) }
+{
+    match known {
+        Some(found) => {
+            if found.page == page && found.space == space {
+                Some(found)
+            } else {
+                None
+            }
+        }
+        None => None,
+    }
+}
+
 impl Fronts {
     /// Nothing is known.
     pub(crate) fn new() -> Fronts
@@ -29,6 +62,7 @@ impl Fronts {
     {
         Fronts {
             heads: [None; SETS],
+            seen: [None; SEEN_PAGES],
         }
     }
 
@@ -38,6 +72,8 @@ impl Fronts {
     {
         let heads = [None; SETS];
         self.heads = heads;
+        let seen = [None; SEEN_PAGES];
+        self.seen = seen;
     }
 
     /// A page, where it is known to be at the front of its list.
@@ -46,16 +82,16 @@ impl Fronts {
         ensures { IfSome result (λ found. (found.now.space ≡ space) × (found.now.page ≡ page)
             × (head_of self.now page ≡ Some found.now)) }
     {
-        match &self.heads[set_of(page)] {
-            Some(found) => {
-                if found.page == page && found.space == space {
-                    Some(found)
-                } else {
-                    None
-                }
-            }
-            None => None,
-        }
+        if_same(&self.heads[set_of(page)], space, page)
+    }
+
+    /// A page, where it is known since it was found, wherever it is in its list.
+    #[inline(always)]
+    pub(crate) fn seen(&self, space: u16, page: u64) -> Option<&FoundPage>
+        ensures { IfSome result (λ found. (found.now.space ≡ space) × (found.now.page ≡ page)
+            × (seen_at self.now page ≡ Some found.now)) }
+    {
+        if_same(&self.seen[place_of(page)], space, page)
     }
 
     /// Puts what was found of a page, which is at the front of its list now.
@@ -63,5 +99,6 @@ impl Fronts {
         ensures { self.new ≡ with_head page found self.old }
     {
         self.heads[set_of(page)] = found;
+        self.seen[place_of(page)] = found;
     }
 }

@@ -10,7 +10,7 @@ ghost use Rattle.overlay_pages.specs.State.{memory_of};
 ghost use Rattle.overlay_pages.specs.Spots.{FindsPage, IsBroughtTo, IsFoundPage};
 ghost use Rattle.overlay_pages.specs.View.{IsJoined, state_of};
 ghost use Rattle.overlay_memory.specs.Translated.{access_at};
-ghost use Rattle.overlay_memory.specs.Fronts.{AreFronts, held_of};
+ghost use Rattle.overlay_memory.specs.Fronts.{AreFronts, AreSeen, held_of};
 ghost use Rattle.overlay_memory.specs.View.{AreTrue, cached_in};
 ghost use Rattle.space_maps.specs.Spaces.{page_in};
 ghost use Rattle.translation_cache.specs.Bare.{bare};
@@ -38,6 +38,18 @@ pub(crate) fn cached_of(found: &FoundPage) -> Cached
     }
 }
 
+/// What is found of a page: what is known since it was found, or else what the tables have.
+#[inline(always)]
+fn find_page(pages: &OverlayPages, fronts: &Fronts, space: u16, page: u64) -> Option<FoundPage>
+    requires { AreSeen pages.now.table fronts.now.seen }
+    ensures { FindsPage pages.now space page result }
+{
+    match fronts.seen(space, page) {
+        Some(found) => Some(*found),
+        None => pages.find_page(space, page),
+    }
+}
+
 /// As `translate`, of a page that isn't known to be at the front of its list.
 #[inline(never)]
 pub(crate) fn translate_anew(
@@ -56,7 +68,7 @@ pub(crate) fn translate_anew(
     ensures held { AreTrue (state_of pages.now) cache.new }
     ensures fronts { AreFronts pages.now (bare cache.new) fronts.new }
 {
-    match pages.find_page(space, page) {
+    match find_page(pages, fronts, space, page) {
         Some(found) => {
             look_up(pages, cache, space, page, cached_of(&found));
             fronts.put(page, Some(found));

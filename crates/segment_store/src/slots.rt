@@ -4,38 +4,40 @@ ghost use Rattle.segment_store.specs.Store.{with_copy_at, with_lines_at, with_on
 ghost use Rattle.segment_store.specs.Changes.{MovesSegments};
 
 use crate::segment::Segment;
+use filled_list::Filled;
 use overlay_address::OverlayPage;
 use overlay_bits::Bits;
 
-/// By unit, the segment that starts there.
-pub(crate) type Slots = Vec<Option<Segment>>;
+/// By unit, the segment that starts there. Those behind the last unit at which one ever started aren't written.
+pub(crate) type Slots = Filled<Option<Segment>>;
 
 /// The segment that starts at a unit.
 #[inline]
 pub(crate) fn at(slots: &Slots, unit: u32) -> Option<Segment>
-    ensures { result ≡ slice_index_or slots.now.items unit None }
+    ensures { result ≡ slice_index_or slots.now unit None }
 {
-    match slots.get(unit as usize) {
-        Some(slot) => *slot,
-        None => None,
+    if (unit as usize) < slots.len() {
+        slots.at(unit as usize)
+    } else {
+        None
     }
 }
 
 /// Puts a segment at a unit, or none.
 #[inline]
 pub(crate) fn put(slots: &mut Slots, unit: u32, segment: Option<Segment>)
-    requires { unit < length slots.old.items }
-    ensures { slots.new.items ≡ slice_set slots.old.items unit segment }
+    requires { unit < length slots.old }
+    ensures { slots.new ≡ slice_set slots.old unit segment }
 {
-    slots[unit as usize] = segment;
+    slots.set(unit as usize, segment);
 }
 
 /// Adds a line to the set of the segment at a unit.
 #[inline]
 pub(crate) fn add_line(slots: &mut Slots, unit: u32, line: u8)
     requires line { line < 64 }
-    requires there { unit < length slots.old.items }
-    ensures added { slots.new.items ≡ with_one_more slots.old.items unit line }
+    requires there { unit < length slots.old }
+    ensures added { slots.new ≡ with_one_more slots.old unit line }
 {
     match at(slots, unit) {
         Some(segment) => set_lines(slots, unit, segment.bits.with(line)),
@@ -46,8 +48,8 @@ pub(crate) fn add_line(slots: &mut Slots, unit: u32, line: u8)
 /// Gives the segment at a unit this set of lines.
 #[inline]
 pub(crate) fn set_lines(slots: &mut Slots, unit: u32, bits: Bits)
-    requires there { unit < length slots.old.items }
-    ensures set { slots.new.items ≡ with_lines_at slots.old.items unit bits }
+    requires there { unit < length slots.old }
+    ensures set { slots.new ≡ with_lines_at slots.old unit bits }
 {
     match at(slots, unit) {
         Some(segment) => put(
@@ -66,8 +68,8 @@ pub(crate) fn set_lines(slots: &mut Slots, unit: u32, bits: Bits)
 /// Puts the segment at a unit, which has to be there, at another one too, for another owner.
 #[inline]
 pub(crate) fn copy(slots: &mut Slots, from: u32, to: u32, owner: OverlayPage)
-    requires { to < length slots.old.items }
-    ensures { slots.new.items ≡ with_copy_at slots.old.items from to owner }
+    requires { to < length slots.old }
+    ensures { slots.new ≡ with_copy_at slots.old from to owner }
 {
     match at(slots, from) {
         Some(segment) => put(
@@ -85,13 +87,14 @@ pub(crate) fn copy(slots: &mut Slots, from: u32, to: u32, owner: OverlayPage)
 
 /// Lets the segments that start at the `count` units from `from` on go to those from `to` on.
 pub(crate) fn carry(slots: &mut Slots, from: u32, to: u32, count: u32)
-    requires source { from + count ≤ length slots.old.items }
-    requires target { to + count ≤ length slots.old.items }
+    requires source { from + count ≤ length slots.old }
+    requires target { to + count ≤ length slots.old }
     requires apart { (from + count ≤ to) ⊎ (to + count ≤ from) }
-    ensures { MovesSegments from to count slots.old.items slots.new.items }
+    ensures { MovesSegments from to count slots.old slots.new }
 {
     'carrying: for i in 0..count as usize {
-        slots[to as usize + i] = slots[from as usize + i];
-        slots[from as usize + i] = None;
+        let slot = slots.at(from as usize + i);
+        slots.set(to as usize + i, slot);
+        slots.set(from as usize + i, None);
     }
 }

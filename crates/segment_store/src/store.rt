@@ -23,6 +23,7 @@ use crate::segment::Segment;
 use crate::slots::{self, Slots};
 use crate::steps::Steps;
 use arrayvec::ArrayVec;
+use filled_list::Filled;
 use overlay_address::OverlayPage;
 use overlay_bits::{Bits, compose};
 use std::alloc::{AllocError, Global};
@@ -46,9 +47,9 @@ impl Model for SegmentStore {
 
     ghost Value = { Store };
 
-    ghost view = { λ s. record { lines = s.region; blocks = s.map; segments = s.slots.items } };
+    ghost view = { λ s. record { lines = s.region; blocks = s.map; segments = s.slots } };
 
-    ghost invariant = { λ s. IsStore (record { lines = s.region; blocks = s.map; segments = s.slots.items }) };
+    ghost invariant = { λ s. IsStore (record { lines = s.region; blocks = s.map; segments = s.slots }) };
 }
 
 impl SegmentStore {
@@ -63,7 +64,7 @@ impl SegmentStore {
     {
         let region = StoreLines::new(alloc, frames)?;
         let map = UnitMap::new(alloc, frames)?;
-        let slots = vec![in alloc; None; 16 * frames as usize]?;
+        let slots = Filled::new(alloc, None, 16 * frames as usize)?;
         Ok(SegmentStore { region, map, slots })
     }
 

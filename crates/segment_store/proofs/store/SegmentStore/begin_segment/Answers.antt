@@ -14,7 +14,7 @@ has c =
     let e = c.in-Some.ensures in
     let lines = c.begin.ensures.begins in
     began (the_view c.self.inside) (after c) c.args.owner c.args.order [] c.in-Some.block c.self.invariant e.pieces e.some e.taken e.others e.only e.units e.free e.apart e.settled
-    (c.put.ensures ∙ ap₂ (λ k bits. set c.self.inside.slots.items c.in-Some.block.unit (Some (record { owner = c.args.owner; order = k; bits = bits }))) (sym e.some.0) c.empty-bits.ensures)
+    (c.put.ensures ∙ ap₂ (λ k bits. set c.self.inside.slots c.in-Some.block.unit (Some (record { owner = c.args.owner; order = k; bits = bits }))) (sym e.some.0) c.empty-bits.ensures)
     (begun_lines c.self.inside.region c.begin.new.region c.in-Some.block lines) are_none lines.pointers
 
 pub invariant_of-self : goal.invariant_of-self

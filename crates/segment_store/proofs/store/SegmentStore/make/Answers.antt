@@ -41,7 +41,7 @@ moved c =
       apart = e.apart;
       lines = c.copy_lines.ensures.copied ∙ ap (λ n. with_copied c.self.inside.region (4 * m.from) (4 * m.to) n) (four_fits m.order c.requires.low);
       size = c.copy_lines.ensures.count;
-      segments = subst (λ n. MovesSegments m.from m.to n c.self.inside.slots.items c.carry.new.slots.items) (one_fits m.order c.requires.low) c.carry.ensures;
+      segments = subst (λ n. MovesSegments m.from m.to n c.self.inside.slots c.carry.new.slots) (one_fits m.order c.requires.low) c.carry.ensures;
     }
 
 pub invariant_of-self : goal.invariant_of-self

@@ -7,7 +7,7 @@ use Rattle.segment_store.proofs.store.SegmentStore.new.Goals as goal
 pub invariant_of-result : goal.invariant_of-result
 invariant_of-result c =
     new_store c.args.frames _
-    (record { lines = c.in_ok-region.ensures.zero; blocks = c.in_ok-map.ensures.free; segments = c.in_ok-slots.ensures.items_if_clones_equal (λ y h. search rules) })
+    (record { lines = c.in_ok-region.ensures.zero; blocks = c.in_ok-map.ensures.free; segments = c.in_ok-slots.ensures })
     c.in_ok-map.ensures.pieces c.in_ok-region.ensures.count
 
 pub returns-clause-store : goal.returns-clause-store

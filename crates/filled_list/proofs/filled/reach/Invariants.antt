@@ -1,6 +1,6 @@
 use Rattle.std.proofs.Common.{◌≡◌, ◌-◌, ◌+◌, ◌≤◌, ◌++◌, ℕ, length, replicate}
 use Rattle.std.specs.Vec.{vec_capacity}
-use Rattle.overlay_mapping_table.proofs.filled.reach.Given as goal
+use Rattle.filled_list.proofs.filled.reach.Given as goal
 
 abbrev pub invariant-reaching : goal.invariant-reaching
 invariant-reaching g l =

@@ -3,7 +3,7 @@ use Rattle.std.specs.Prelude.{◌⊎◌}
 use Rattle.std.proofs.lemmas.Bool.{cases_lt}
 use Rattle.std.proofs.lemmas.List.{append_assoc, length-append, length-replicate, length-set, replicate-append-replicate, set-append_left, get_or_append_left, get_or-append_right, get_or-replicate, get_or_past}
 use Rattle.std.specs.List.{CopiedTo, SameBelow, SameFrom}
-use Rattle.overlay_mapping_table.specs.Shifts.{AreCopied}
+use Rattle.filled_list.specs.Copied.{AreCopied}
 
 -- Lists of which all elements behind some are alike.
 

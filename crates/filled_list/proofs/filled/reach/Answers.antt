@@ -1,6 +1,6 @@
 use Rattle.std.proofs.Common.{◌≤◌, length, arith, rules}
-use Rattle.overlay_mapping_table.proofs.Fills.{grown}
-use Rattle.overlay_mapping_table.proofs.filled.reach.Goals as goal
+use Rattle.filled_list.proofs.Fills.{grown}
+use Rattle.filled_list.proofs.filled.reach.Goals as goal
 
 pub reaching-preserved : goal.reaching-preserved
 reaching-preserved g c =

@@ -1,14 +1,16 @@
+//! The list.
+
 ghost use Rattle.std.specs.Prelude.{◌≡◌, ◌<◌, ◌≤◌, ◌+◌, ◌-◌, ◌++◌, length, get_or, slice_set, replicate, IfOk};
-ghost use Rattle.overlay_mapping_table.specs.Shifts.{AreCopied};
+ghost use Rattle.filled_list.specs.Copied.{AreCopied};
 ghost use Rattle.std.specs.Vec.{vec_capacity};
 
 use std::alloc::{AllocError, Global};
 use std::marker::Model;
 
-// A list of fixed length. Up to the last element that was written they are kept, and all behind it are alike: so it
-// costs next to nothing to make.
+/// A list of fixed length. Up to the last element that was written they are kept, and all behind it are alike: so it costs next to
+/// nothing to make, and memory that isn't met isn't touched.
 #[derive(Debug, Drop)]
-pub(crate) struct Filled<T> {
+pub struct Filled<T> {
     items: Vec<T>,
     rest: T,
     len: usize,
@@ -26,7 +28,7 @@ impl<T> Model for Filled<T> {
 }
 
 impl<T: Copy> Filled<T> {
-    // So many elements, which are alike.
+    /// So many elements, which are alike. Takes all the memory that the list ever needs, or answers the want of it, and writes none of it.
     pub fn new(alloc: Global, rest: T, len: usize) -> Result<Filled<T>, AllocError>
         ensures { IfOk result (λ f. f ≡ replicate len rest) }
     {
@@ -34,14 +36,14 @@ impl<T: Copy> Filled<T> {
         Ok(Filled { items, rest, len })
     }
 
-    // How many elements there are.
+    /// How many elements there are. Costs a step.
     pub fn len(&self) -> usize
         ensures { result ≡ length self.now }
     {
         self.len
     }
 
-    // An element.
+    /// An element, which has to be there. Costs a step.
     #[inline(always)]
     pub fn at(&self, at: usize) -> T
         requires { at < length self.now }
@@ -54,7 +56,7 @@ impl<T: Copy> Filled<T> {
         }
     }
 
-    // Writes an element, and all before it that were alike so far.
+    /// Writes an element, which has to be there, and all before it that were alike so far. Takes no memory.
     #[inline(always)]
     pub fn set(&mut self, at: usize, x: T)
         requires { at < length self.old }
@@ -68,7 +70,7 @@ impl<T: Copy> Filled<T> {
         }
     }
 
-    // Writes so many elements from one place on to another one, as a block.
+    /// Writes so many elements from one place on to another one, as a block. The two may lie over each other. Takes no memory.
     pub fn copy(&mut self, from: usize, to: usize, n: usize)
         requires some { 0 < n }
         requires from { from + n ≤ length self.old }
@@ -80,7 +82,7 @@ impl<T: Copy> Filled<T> {
     }
 }
 
-// Makes a list as long as needed for a place.
+/// Makes a list as long as needed for a place.
 #[inline(never)]
 fn reach<T: Copy>(items: &mut Vec<T>, rest: T, at: usize)
     requires { at < vec_capacity items.old }

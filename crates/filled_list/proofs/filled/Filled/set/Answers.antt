@@ -1,6 +1,6 @@
 use Rattle.std.proofs.Common.{◌<◌, length, rules}
-use Rattle.overlay_mapping_table.proofs.Fills.{set_at, set_kept}
-use Rattle.overlay_mapping_table.proofs.filled.Filled.set.Goals as goal
+use Rattle.filled_list.proofs.Fills.{set_at, set_kept}
+use Rattle.filled_list.proofs.filled.Filled.set.Goals as goal
 
 pub returns-then-at-len : goal.returns-then-at-len
 returns-then-at-len g c =

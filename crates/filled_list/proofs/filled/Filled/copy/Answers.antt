@@ -1,6 +1,6 @@
 use Rattle.std.proofs.Common.{◌≡◌, length, rules}
-use Rattle.overlay_mapping_table.proofs.Fills.{copied_at}
-use Rattle.overlay_mapping_table.proofs.filled.Filled.copy.Goals as goal
+use Rattle.filled_list.proofs.Fills.{copied_at}
+use Rattle.filled_list.proofs.filled.Filled.copy.Goals as goal
 
 pub returns : goal.returns
 returns g c =

@@ -1,0 +1,2 @@
+-- A block of a list that was copied to another place of it.
+pub mod Copied

@@ -1,0 +1,2 @@
+-- What the requests are, and the registers behind them.
+pub mod Calls
