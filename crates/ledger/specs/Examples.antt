@@ -348,7 +348,7 @@ abbrev imported_line : List Event
 imported_line = loads 1 ∷ Copy 1 2 ∷ Import 2 3 ((16, 32 ∷ []) ∷ (67108848, []) ∷ []) ∷ []
 
 pub units_imported_line : ComesTo imported_line 33 1
-unfolding class frame_for with_lines imported settled_if_large
+unfolding class frame_for with_lines
 units_imported_line = (units_are imported_line ∙ refl, lines_are imported_line ∙ refl)
 
 pub origin_imported_line : holding_at (all_after imported_line empty) 3 16 ≡ Some (record { origin = 1; own = 32 ∷ [] })

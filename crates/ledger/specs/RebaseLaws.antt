@@ -1,6 +1,6 @@
-use Rattle.std.specs.Prelude.{◌≡◌, ℕ, ◌+◌, ◌≤◌, Bool, true, false, nat_eq, List, length, Option, Some, None, refl}
-use Rattle.std.proofs.Common.{sym, ap, ◌∙◌, arith}
-use Rattle.ledger.specs.Ledger.{Holding, Ledger, is_alone, is_unused, holding_at, with_page, without_page}
+use Rattle.std.specs.Prelude.{◌≡◌, ℕ, ◌+◌, ◌≤◌, Bool, true, false, List, length, Option, Some, None, refl}
+use Rattle.std.proofs.Common.{ap, ◌∙◌, arith}
+use Rattle.ledger.specs.Ledger.{Holding, Ledger, is_alone, is_unused, holding_at, without_page}
 use Rattle.ledger.specs.Units.{class, units}
 use Rattle.ledger.specs.Changes.{rebased}
 use Rattle.ledger.specs.PlaceLaws.{gone_other, put_other}
