@@ -6,7 +6,7 @@ use Rattle.sizes.specs.declared.TheConstants.{PAGE_BYTES}
 use Rattle.ledger.specs.Ledger.{holding_at}
 use Rattle.ledger.specs.Units.{class, own_lines, units}
 use Rattle.ledger.specs.Changes.{with_lines, without_own}
-use Rattle.ledger.specs.Events.{Event, Load, Store, Copy, Settle, SettlePage, Commit, Discard, Map, Unmap, Drop}
+use Rattle.ledger.specs.Events.{Event, Load, Store, Copy, Settle, SettlePage, Commit, Discard, Map, Unmap, Drop, Rebase, Import}
 use Rattle.ledger.specs.UnitLaws.{frame_for}
 use Rattle.ledger.specs.Touched.{lines_on_page, touched, touched_between}
 use Rattle.ledger.specs.Written.{all_after, holding_is, lines_are, units_are}
@@ -307,3 +307,63 @@ units_alone_with_line = (units_are alone_with_line ∙ refl, lines_are alone_wit
 pub units_alone_committed : ComesTo (alone_with_line ++ (Commit 1 ∷ [])) 32 0
 unfolding class frame_for with_lines touched touched_between lines_on_page
 units_alone_committed = (units_are (alone_with_line ++ (Commit 1 ∷ [])) ∙ refl, lines_are (alone_with_line ++ (Commit 1 ∷ [])) ∙ refl)
+
+-- A page that is put on another one, with 31 lines of its own.
+
+abbrev two_loads : List Event
+two_loads = loads 1 ∷ loads 2 ∷ []
+
+abbrev rebased_once : List Event
+rebased_once = two_loads ++ (Rebase 2 1 ((16, 16, range_with_len 32 31) ∷ []) ∷ [])
+
+-- 40 units and 31 lines, and the origin of that page
+pub units_rebased_once : ComesTo rebased_once 40 31
+unfolding class frame_for with_lines
+units_rebased_once = (units_are rebased_once ∙ refl, lines_are rebased_once ∙ refl)
+
+pub origin_rebased_once : holding_at (all_after rebased_once empty) 2 16 ≡ Some (record { origin = 1; own = range_with_len 32 31 })
+unfolding class frame_for with_lines
+origin_rebased_once = holding_is rebased_once 2 16 ∙ refl
+
+-- all pages of a space that are alone, on those of another: 32 units, and no lines
+abbrev rebased_all : List Event
+rebased_all = two_loads ++ (Rebase 2 1 ((16, 16, []) ∷ []) ∷ [])
+
+pub units_rebased_all : ComesTo rebased_all 32 0
+unfolding class frame_for with_lines
+units_rebased_all = (units_are rebased_all ∙ refl, lines_are rebased_all ∙ refl)
+
+-- one page on the zero page, and the next one on the first, which has origin 0 by then
+abbrev rebased_twice : List Event
+rebased_twice = two_loads ++ (Map 1 17 1 ∷ Rebase 1 1 ((16, 17, 3 ∷ []) ∷ []) ∷ Rebase 2 1 ((16, 16, 3 ∷ 5 ∷ []) ∷ []) ∷ [])
+
+pub units_rebased_twice : ComesTo rebased_twice 18 3
+unfolding class frame_for with_lines
+units_rebased_twice = (units_are rebased_twice ∙ refl, lines_are rebased_twice ∙ refl)
+
+-- An image that is read over a base.
+
+-- the page that both have gets the base's origin and one line more, and all others are zero
+abbrev imported_line : List Event
+imported_line = loads 1 ∷ Copy 1 2 ∷ Import 2 3 ((16, 32 ∷ []) ∷ (67108848, []) ∷ []) ∷ []
+
+pub units_imported_line : ComesTo imported_line 33 1
+unfolding class frame_for with_lines
+units_imported_line = (units_are imported_line ∙ refl, lines_are imported_line ∙ refl)
+
+pub origin_imported_line : holding_at (all_after imported_line empty) 3 16 ≡ Some (record { origin = 1; own = 32 ∷ [] })
+unfolding class frame_for with_lines
+origin_imported_line = holding_is imported_line 3 16 ∙ refl
+
+-- own lines of the base are joined with those given, and 32 of them are settled; so is a page that the base lacks
+abbrev imported_large : List Event
+imported_large =
+    loads 1 ∷ Copy 1 2 ∷ stores 2 65536 64 ∷ Import 2 3 ((16, range_with_len 1 31) ∷ (17, range_with_len 0 32) ∷ (18, range_with_len 0 31) ∷ []) ∷ []
+
+pub units_imported_large : ComesTo imported_large 73 32
+unfolding class frame_for with_lines touched touched_between lines_on_page
+units_imported_large = (units_are imported_large ∙ refl, lines_are imported_large ∙ refl)
+
+pub origins_imported_large : (holding_at (all_after imported_large empty) 3 16 ≡ Some (without_own 2)) × (holding_at (all_after imported_large empty) 3 17 ≡ Some (without_own 3))
+unfolding class frame_for with_lines touched touched_between lines_on_page
+origins_imported_large = (holding_is imported_large 3 16 ∙ refl, holding_is imported_large 3 17 ∙ refl)

@@ -20,6 +20,7 @@ pub mod TallyLaws
 pub mod StoreLaws
 pub mod LargeLaws
 pub mod TwoSteps
+pub mod RebaseLaws
 pub mod CopyLaws
 pub mod Written
 pub mod Examples
