@@ -46,8 +46,8 @@ more_same word xs ys fit fits before same i below = by (cases_lt i (8 * word))
         let low : i - 8 * word < 8 = omega (arith, below, more) in
         ap (λ j. get_or xs j 0) (sym at) ∙ sym (part_at (8 * word) (i - 8 * word) xs low)
         ∙ one_number 8 0 (take (8 * word + 8 - 8 * word) (drop (8 * word) xs)) (take (8 * word + 8 - 8 * word) (drop (8 * word) ys)) (part_fits (8 * word) xs fit) (part_fits (8 * word) ys fits) same
-            (i - 8 * word)
-            (omega arith) low
+        (i - 8 * word)
+        (omega arith) low
         ∙ part_at (8 * word) (i - 8 * word) ys low ∙ ap (λ j. get_or ys j 0) at
 
 -- all words are

@@ -1,8 +1,8 @@
 ghost use Rattle.std.specs.Prelude.{◌≤◌};
 ghost use Rattle.std.specs.Int.{IsPowerOfTwo};
 
-use filled_list::Filled;
 use crate::places::{home, way};
+use filled_list::Filled;
 use overlay_address::OverlayPage;
 use std::alloc::{AllocError, Global};
 

@@ -3,8 +3,8 @@ ghost use Rattle.overlay_mapping_table.specs.Rows.{nothing};
 ghost use Rattle.overlay_mapping_table.specs.Gaps.{seen_slots, ShowNone, AreDown, AreUp, IsGapIn};
 
 use crate::entry::Entry;
-use filled_list::Filled;
 use crate::gaps::{Gap, close, read, shift};
+use filled_list::Filled;
 use overlay_bits::Bits;
 use unit_map::Block;
 

@@ -4,9 +4,9 @@ ghost use Rattle.overlay_mapping_table.specs.Rows.{name_in, no_rows};
 ghost use Rattle.overlay_mapping_table.specs.Shifts.{AreOneUp};
 
 use crate::entry::Entry;
-use filled_list::Filled;
 use crate::gaps::{Gap, read, spot};
 use crate::moves::{move_down, move_up, nothing, room_from, settle};
+use filled_list::Filled;
 use overlay_address::OverlayPage;
 use std::alloc::{AllocError, Global};
 use std::marker::Model;
