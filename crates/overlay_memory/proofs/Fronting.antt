@@ -56,6 +56,7 @@ none_known view t fronts is = record {
     count = ap length is.1;
     pages = λ place found at. absurd (none-some found (sym (none_at SEEN_PAGES place) ∙ sym (ap (λ seen. get_or seen place None) is.1) ∙ at));
   };
+  tells = λ none. is;
 }
 
 -- hits are counted
@@ -67,6 +68,7 @@ hits_fronts view t u n fronts is are = subst (λ (w : BareTranslations). AreFron
   count = are.count;
   heads = λ set found at. let head = are.heads set found at in (head.0, head_hits view.table t n found head.1);
   seen = are.seen;
+  tells = are.tells;
 })
 
 pub hits_true : (v : State) (t u : Translations Cached) (n : ℕ) → u ≡ with_hits n t → AreTrue v t → AreTrue v u
@@ -80,6 +82,7 @@ filled_fronts old new t fronts table are = record {
       let head = are.heads set found at in
       (head.0, record { is = subst (λ (v : LedgerView). IsFoundPage v found) (sym table) head.1.is; front = head.1.front });
   seen = subst (λ (v : LedgerView). AreSeen v fronts.seen) (sym table) are.seen;
+  tells = are.tells;
 }
 
 -- A page is put in the place of those that were found: it is as the tables have it, and so are still those at other places.
@@ -194,6 +197,7 @@ module _ (view : MemoryView) (s p : ℕ) (result : Option FoundPage) (t u : Bare
         (λ other. beside set found other (sym (get_or-set_other fronts.heads (p % SETS) set result None other) ∙ at));
     seen = put_seen view.table view.table fronts.seen p result are.seen
         (λ found some. let at : IsFoundPageAt view s p found = subst (FindsPage view s p) some finds in (at.page_is, at.is)) (λ found other is. is);
+    tells = λ none. cc;
   }
 
 -- A page that was found: what holds of a line of it holds of that of the address, and whether it may be used so.
@@ -249,6 +253,7 @@ brought_fronts old new t fronts page found line p are front to p_is = record {
   seen = put_seen old.table new.table fronts.seen p (Some found) are.seen
       (λ other some. subst (λ (f : FoundPage). (f.page ≡ p) × IsFoundPage new.table f) (some_is found other some) (p_is, to.is))
       (λ other apart is. to.others other (λ ss pp. apart (ap (λ n. n % SEEN_PAGES) (pp ∙ sym to.page_is ∙ p_is))) is);
+  tells = λ none. cc;
 }
 
 -- The line of an address, whole.

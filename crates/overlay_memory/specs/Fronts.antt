@@ -1,4 +1,4 @@
-use Rattle.std.specs.Prelude.{◌≡◌, ℕ, ◌%◌, List, length, replicate, slice_index_or, slice_set, Option, Some, None}
+use Rattle.std.specs.Prelude.{◌≡◌, ℕ, ◌%◌, List, length, replicate, slice_index_or, slice_set, Option, Some, None, true, false}
 use Rattle.overlay_memory.specs.declared.fronts.Fronts.{Fronts}
 use Rattle.overlay_memory.specs.declared.fronts.TheConstants.{SEEN_PAGES}
 use Rattle.overlay_pages.specs.Spots.{IsFoundPage}
@@ -16,6 +16,10 @@ use Rattle.translation_cache.specs.declared.cached.Cached.{Cached}
 abbrev pub IsClear : Fronts → Type 0
 IsClear fronts = (fronts.heads ≡ replicate SETS None) × (fronts.seen ≡ replicate SEEN_PAGES None)
 
+-- where a memory says so, nothing is known
+abbrev pub TellsNone : Fronts → Type 0
+TellsNone fronts = fronts.any ≡ false → IsClear fronts
+
 -- what is known of the list of a page
 abbrev pub head_of : Fronts → ℕ → Option FoundPage
 head_of fronts page = slice_index_or fronts.heads (page % SETS) None
@@ -29,6 +33,7 @@ abbrev pub with_head : ℕ → Option FoundPage → Fronts → Fronts
 with_head page found fronts = record {
   heads = slice_set fronts.heads (page % SETS) found;
   seen = slice_set fronts.seen (page % SEEN_PAGES) found;
+  any = true;
 }
 
 -- what was found of a page, as its entry holds it
@@ -49,3 +54,4 @@ pub record AreFronts (view : MemoryView) (t : BareTranslations) (fronts : Fronts
   pub count : length fronts.heads ≡ SETS
   pub heads : (set : ℕ) (found : FoundPage) → slice_index_or fronts.heads set None ≡ Some found → (found.page % SETS ≡ set) × IsHead view.table t found
   pub seen : AreSeen view.table fronts.seen
+  pub tells : TellsNone fronts

@@ -1,7 +1,7 @@
 //! What is known of pages, as the tables have them: of each list of translations the page at its front, and pages that were found before.
 
 ghost use Rattle.std.specs.Prelude.{◌≡◌, ◌%◌, ◌<◌, IfSome, Some};
-ghost use Rattle.overlay_memory.specs.Fronts.{IsClear, head_of, seen_at, with_head};
+ghost use Rattle.overlay_memory.specs.Fronts.{IsClear, TellsNone, head_of, seen_at, with_head};
 ghost use Rattle.overlay_memory.specs.declared.fronts.TheConstants.{SEEN_PAGES};
 ghost use Rattle.translation_cache.specs.declared.TheConstants.{SETS};
 
@@ -17,6 +17,8 @@ pub(crate) const SEEN_PAGES: usize = 64;
 pub(crate) struct Fronts {
     heads: [Option<FoundPage>; SETS],
     seen: [Option<FoundPage>; SEEN_PAGES],
+    // false only where nothing is known, so that what is forgotten a page at a time is cleared once
+    any: bool,
 }
 
 /// The list of a page.
@@ -63,17 +65,31 @@ impl Fronts {
         Fronts {
             heads: [None; SETS],
             seen: [None; SEEN_PAGES],
+            any: false,
         }
     }
 
     /// Forgets all pages.
+    #[inline]
     pub(crate) fn clear(&mut self)
+        requires { TellsNone self.old }
+        ensures { IsClear self.new }
+    {
+        if self.any {
+            self.forget();
+        }
+    }
+
+    /// Forgets all pages, of which there may be some.
+    #[inline(never)]
+    fn forget(&mut self)
         ensures { IsClear self.new }
     {
         let heads = [None; SETS];
         self.heads = heads;
         let seen = [None; SEEN_PAGES];
         self.seen = seen;
+        self.any = false;
     }
 
     /// A page, where it is known to be at the front of its list.
@@ -100,5 +116,6 @@ impl Fronts {
     {
         self.heads[set_of(page)] = found;
         self.seen[place_of(page)] = found;
+        self.any = true;
     }
 }
