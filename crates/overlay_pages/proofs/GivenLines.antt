@@ -1,13 +1,13 @@
-use Rattle.overlay_pages.proofs.Common.{◌≡◌, ℕ, ◌+◌, ◌^◌, ◌<◌, ◌≤◌, ◌||◌, ◌++◌, ◌∷◌, Bool, true, false, cond, nat_eq, List, [], Option, Some, None, IsSome, length, refl, true≢false, sym, ap, subst, ◌∙◌, arith, none-some, nat_tests, get_or}
-use Rattle.overlay_pages.proofs.Stores.{AreSettled, HasRoom, free_units, units_in, Block, AreLines, has_line, has_append, with_line, overlay_page, Entry, Segment, IsStore, capacity_of, Store, IsSegment, frame_line, line_in, lines_at, lines_with, segment_at, BeginsSegment, HasLinesNow, Inserts, KeepsFrames, KeepsOtherSegments, lines_there, refilled}
-use Rattle.overlay_pages.proofs.Books.{class, class_none, by_test, page_in, put_page, altered_page, LedgerView, PageView, lines_of, with_overlay, overlay_at, changed_there}
-use Rattle.overlay_pages.proofs.Views.{page_lines, line_at, lines_same, line_in_page, given_page, limit_of, units_of, IsHeld, IsJoined, IsLaid, MemoryView, line_seen, page_state, segment_of, state_of, view_of, state_page_there}
-use Rattle.overlay_bits.specs.Laws.{are_front, front_lacks, next_inside, with_next}
+use Rattle.overlay_pages.proofs.Common.{◌≡◌, ℕ, ◌+◌, ◌^◌, ◌<◌, ◌≤◌, ◌||◌, ◌++◌, ◌∷◌, Bool, true, false, cond, nat_eq, List, [], Option, Some, None, length, refl, true≢false, sym, ap, subst, ◌∙◌, arith, none-some, nat_tests, get_or}
+use Rattle.overlay_pages.proofs.Stores.{AreSettled, HasRoom, free_units, units_in, Block, AreLines, has_line, has_append, with_line, overlay_page, Entry, IsStore, capacity_of, Store, IsSegment, frame_line, line_in, lines_at, lines_with, BeginsSegment, HasLinesNow, Inserts, KeepsFrames, KeepsOtherSegments, lines_there, refilled}
+use Rattle.overlay_pages.proofs.Books.{class, class_none, by_test, altered_page, LedgerView, PageView, lines_of, with_overlay}
+use Rattle.overlay_pages.proofs.Views.{page_lines, line_at, lines_same, line_in_page, given_page, limit_of, units_of, IsJoined, IsLaid, MemoryView, line_seen, page_state, state_of, view_of, state_page_there}
+use Rattle.overlay_bits.specs.Laws.{front_lacks, next_inside, with_next}
 use Rattle.std.proofs.Common.{append_assoc}
 use Rattle.std.proofs.lemmas.List.{append-nil, length-append}
 use Rattle.overlay_pages.proofs.Steps.{seen_bare, seen_inside, seen_outside}
 use Rattle.overlay_pages.proofs.Overlaying.{overlays, segments_some}
-use Rattle.overlay_pages.proofs.Joining.{Has, altered_still, frames_twice, others_twice, page_with, segment_beside, unit_low}
+use Rattle.overlay_pages.proofs.Joining.{Has, altered_still, frames_twice, others_twice, segment_beside, unit_low}
 use Rattle.overlay_pages.proofs.Growing.{free_is, has_room}
 
 -- An overlay of lines that are given.

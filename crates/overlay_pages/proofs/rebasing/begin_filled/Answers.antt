@@ -1,4 +1,4 @@
-use Rattle.overlay_pages.proofs.Common.{◌∙◌, refl, ap, sym, ◌≡◌, ◌<◌, ◌≤◌, length, subst, arith}
+use Rattle.overlay_pages.proofs.Common.{◌∙◌, ap, sym, ◌≤◌, length, subst, arith}
 use Rattle.overlay_pages.proofs.Stores.{capacity_of}
 use Rattle.overlay_pages.proofs.Views.{line_in_page}
 use Rattle.overlay_pages.proofs.GivenLines.{all_filled, fill_absent, fill_fits, fill_low, fill_there, none_filled, one_filled}

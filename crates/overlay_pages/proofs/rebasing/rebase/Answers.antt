@@ -1,6 +1,3 @@
-use Rattle.overlay_pages.proofs.Common.{None, refl, ap, sym, ◌∙◌, ◌+◌, arith}
-use Rattle.overlay_pages.proofs.Stores.{frame_inside}
-use Rattle.overlay_pages.proofs.Books.{overlay_at}
 use Rattle.overlay_pages.proofs.Views.{state_of, view_of}
 use Rattle.overlay_pages.proofs.Rebased.{after_alone, after_awaits, after_away, after_bare, after_theirs, after_there, rebase_fits, rebase_own, rebase_state}
 use Rattle.overlay_pages.proofs.rebasing.rebase.Goals as goal
