@@ -1,7 +1,7 @@
 use Rattle.overlay_pages.proofs.Common.{is_some, option_and_then, ◌≡◌, ℕ, ◌+◌, ◌*◌, ◌^◌, ◌<◌, ◌≤◌, ◌||◌, Bool, true, false, cond, nat_eq, List, [], Option, Some, None, IsSome, length, get_or, slice_index_or, slice_set, refl, true≢false, sym, ap, ap₂, subst, ◌∙◌, arith, inl, inr, pow_pos, nat_tests, none-some, same_Some, get_or-set_other, get_or-set_same, cases_eq}
 use Rattle.overlay_pages.proofs.Stores.{AreSettled, CanSettle, free_units, units_in, Block, AreLines, has_line, with_line, count_with, has_with, overlay_page, Entry, Segment, IsStore, capacity_of, Store, IsSegment, frame_line, line_in, lines_at, lines_with, scratch_line, segment_at, BeginsSegment, CopiesSegment, EndsSegment, HasLinesNow, Inserts, KeepsFrame, KeepsFrames, KeepsOtherSegments, Lays, block_of, inside_of, lines_there, order_of, refilled, stays_twice}
 use Rattle.overlay_pages.proofs.Books.{by_option, are, class, overlaid_pages, overlaid_few, class_none, changed_there, page_again, page_in, put_page, altered_page, LedgerView, PageView, ledger_of, lines_of, overlay_at, with_overlay}
-use Rattle.overlay_pages.proofs.Views.{page_lines, lines_same, set_line, state_page_there, discarded, joins, laid, laid_line, IsHeld, IsJoined, MemoryView, line_seen, page_state, segment_of, state_of, view_of, PageState, State}
+use Rattle.overlay_pages.proofs.Views.{page_lines, lines_same, set_line, state_page_there, discarded, joins, laid, laid_line, IsLaid, IsHeld, IsJoined, MemoryView, line_seen, page_state, segment_of, state_of, view_of, PageState, State}
 use Rattle.overlay_pages.proofs.Sizes.{still_fits}
 use Rattle.overlay_pages.proofs.Steps.{overlay_lines, overlay_there, seen_bare, seen_inside, seen_outside, seen_overlaid}
 use Rattle.overlay_pages.proofs.Overlaying.{Overlays, overlays, segments_some}
@@ -177,22 +177,9 @@ frames_twice one two three a b frame is = record {
   lines = λ line low. (b frame (a frame is).stays).lines line low ∙ (a frame is).lines line low;
 }
 
-others_twice : (one two three : Store) (u : ℕ) → KeepsOtherSegments one u two → KeepsOtherSegments two u three → KeepsOtherSegments one u three
+pub others_twice : (one two three : Store) (u : ℕ) → KeepsOtherSegments one u two → KeepsOtherSegments two u three → KeepsOtherSegments one u three
 others_twice one two three u a b unit segment away there =
     let first = a unit segment away there in stays_twice one two three (block_of unit segment) first (b unit segment away (first.there ∙ there))
-
--- A segment began with lines that were given.
-pub record IsLaid (old new : Store) (owner : ℕ) (block : Block) (bits : List ℕ) (given : ℕ → List ℕ) : Type 0 where
-  pub fresh : segment_at old block.unit ≡ None
-  pub there : segment_at new block.unit ≡ Some (record { owner = owner; order = block.order; bits = bits })
-  pub elsewhere : (unit : ℕ) → (unit ≡ block.unit → ⊥) → segment_at new unit ≡ segment_at old unit
-  pub kept : KeepsOtherSegments old block.unit new
-  pub frames : KeepsFrames old new
-  pub lines : (i : ℕ) → i < 64 → has_line bits i ≡ true → line_in new block i ≡ given i
-  pub free : free_units new.blocks + 2 ^ block.order ≡ free_units old.blocks
-  pub whole : units_in new.blocks ≡ units_in old.blocks
-  pub settled : AreSettled old.blocks → AreSettled new.blocks
-  pub store : IsStore new
 
 pub laid_by : (old began new : Store) (owner order named : ℕ) (block : Block) (bits : List ℕ) → owner ≡ named → BeginsSegment old began owner order [] block
     → Lays began new block bits → HasLinesNow began new block bits → KeepsOtherSegments began block.unit new → KeepsFrames began new → IsStore new → IsLaid old new named block bits (scratch_line old)

@@ -26,6 +26,8 @@ pub mod Adding
 pub mod Committing
 pub mod SharedPages
 pub mod SharedRuns
+pub mod GivenLines
+pub mod Rebased
 pub mod OwnPlaces
 pub mod Laws
 pub mod Needs

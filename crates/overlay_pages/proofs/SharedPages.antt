@@ -1,11 +1,11 @@
 use Rattle.overlay_pages.proofs.Common.{◌≡◌, ℕ, ◌^◌, ◌<◌, not, Bool, true, false, cond, nat_eq, List, Option, Some, None, IsSome, length, refl, sym, ap, subst, ◌∙◌, arith, none-some, option_map, option_map_or, get, remove, and_right}
 use Rattle.overlay_pages.proofs.Stores.{HasRoom, Block, has_line, overlay_page, Entry, Store, IsFrame, frame_line, line_in}
 use Rattle.overlay_pages.proofs.Books.{keeps_page_put, Pages, PageEntry, has_origin, is_unused, class, frame_for, map_from, books_page, put_shared_as, holds_space, page_in, put_awaiting, put_page, put_shared, space_in, LedgerView, PageView, frame_at, frame_awaiting, holding_of, ledger_of, lines_of, overlay_at, with_page_shared, origin_of}
-use Rattle.overlay_pages.proofs.Views.{page_lines, lines_same, PageState, HasShareRoom, shared_page, state_awaiting_put, IsHeld, IsJoined, MemoryView, line_seen, page_state, state_of, view_of, state_awaiting, state_page_there, with_shared}
+use Rattle.overlay_pages.proofs.Views.{page_lines, lines_same, PageState, HasShareRoom, shared_page, state_awaiting_put, IsHeld, IsLaid, IsJoined, MemoryView, line_seen, page_state, state_of, view_of, state_awaiting, state_page_there, with_shared}
 use Rattle.overlay_pages.proofs.Steps.{seen_bare, seen_inside, seen_outside}
 use Rattle.overlay_pages.proofs.Coming.{HasPlaceFor, came}
 use Rattle.overlay_pages.proofs.Overlaying.{segments_some}
-use Rattle.overlay_pages.proofs.Joining.{Has, overlay_order, page_with, IsLaid}
+use Rattle.overlay_pages.proofs.Joining.{Has, overlay_order, page_with}
 use Rattle.overlay_pages.proofs.Growing.{free_is, has_room}
 use Rattle.overlay_pages.proofs.Tables.{awaiting_joined}
 

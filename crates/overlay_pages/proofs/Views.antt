@@ -1,6 +1,6 @@
 pub use Rattle.overlay_pages.specs.Calls.{AreShared, AreZeros, AwaitBare, AwaitsLike, IsEmptyState, IsNextPage, MovesFewBeside, RisesBy, with_line_at_place, zero_holding}
 unfoldable pub use Rattle.overlay_pages.specs.Calls.{entries_in}
-pub use Rattle.overlay_pages.specs.Changes.{Fits, HasCopyRoom, HasShareRoom, IsNewFrame, IsPlaced, brought, committed, copied, discarded, is_writable, limit_of, moved_to, shared_page, units_of, whole_page, writes_frame, written}
+pub use Rattle.overlay_pages.specs.Changes.{Fits, HasCopyRoom, HasShareRoom, IsAway, IsNewFrame, IsPlaced, IsRebased, SeesFrame, brought, committed, copied, discarded, frame_in, is_writable, limit_of, moved_to, rebased_page, shared_page, units_of, whole_page, writes_frame, written}
 unfoldable pub use Rattle.overlay_pages.specs.Changes.{with_brought, with_shared, with_written, with_zeros}
 pub use Rattle.overlay_pages.specs.LineLaws.{line_at, lines_same, set_line}
 pub use Rattle.overlay_pages.specs.Lines.{line_in_page, page_lines}
@@ -8,7 +8,7 @@ unfoldable pub use Rattle.overlay_pages.specs.Lines.{bytes_of_line, lines_of_byt
 pub use Rattle.overlay_pages.specs.SpotLaws.{found_at}
 pub use Rattle.overlay_pages.specs.Spots.{IsBroughtTo, IsFound, IsFoundAt, IsFoundPage, IsFoundPageAt, IsInFrame, IsInSegment, IsSpot}
 pub use Rattle.overlay_pages.specs.State.{PageState, SpaceState, State, books, held_page}
-pub use Rattle.overlay_pages.specs.Steps.{FollowsAll, FollowsAt, IsAhead, IsBehind, IsOfPage, KeepsOtherOverlays, Moved, MovesFew, PutsLine, Tells, joins, laid, laid_line, relocated}
+pub use Rattle.overlay_pages.specs.Steps.{FollowsAll, FollowsAt, IsAhead, IsBehind, IsLaid, IsOfPage, KeepsOtherOverlays, Moved, MovesFew, PutsLine, Tells, given_page, joins, laid, laid_line, relocated}
 unfoldable pub use Rattle.overlay_pages.specs.Steps.{went_overlay, went_page}
 pub use Rattle.overlay_pages.specs.TableLaws.{state_added, state_awaiting_put, state_cut_space, state_mark_put}
 pub use Rattle.overlay_pages.specs.View.{HasOwnPlace, IsHeld, IsJoined, IsJoinedWith, IsOwned, MemoryView, ShareFrameLine, line_seen, place_at, place_in_page, segment_of, view_of}

@@ -1,14 +1,14 @@
-use Rattle.std.specs.Prelude.{◌≡◌, ℕ, ◌+◌, ◌*◌, ◌≤◌, ◌<◌, ◌&&◌, Bool, true, false, cond, not, List, [], Some, None, IsTrue, length, slice_set}
-use Rattle.std.specs.Option.{option_map_or}
+use Rattle.std.specs.Prelude.{◌≡◌, ℕ, ◌+◌, ◌*◌, ◌≤◌, ◌<◌, ◌⊎◌, ◌==◌, ◌&&◌, Bool, true, false, cond, if◌then◌else◌, not, List, [], Option, Some, None, IfSome, IsTrue, length, slice_set}
+use Rattle.std.specs.Option.{option_map, option_map_or}
 use Rattle.std.specs.FinMap.{get}
-use Rattle.sizes.specs.declared.TheConstants.{FRAME_UNITS}
+use Rattle.sizes.specs.declared.TheConstants.{FRAME_UNITS, PAGE_LINES}
 use Rattle.overlay_bits.specs.Lines.{has_line}
 use Rattle.page_table.specs.declared.entry.PageEntry.{PageEntry}
 use Rattle.page_table.specs.Table.{is_within}
 use Rattle.ledger.specs.Ledger.{is_alone, is_unused}
 use Rattle.ledger.specs.Changes.{with_lines}
 use Rattle.ledger.specs.Units.{class, units}
-use Rattle.overlay_pages.specs.Lines.{zero_page}
+use Rattle.overlay_pages.specs.Lines.{line_in_page, zero_page}
 use Rattle.overlay_pages.specs.State.{PageState, State, books}
 use Rattle.space_maps.specs.Spaces.{page_in, put_page, put_pages, put_shared, space_in, altered_page}
 
@@ -51,7 +51,30 @@ discarded x = whole_page x.entry x.base
 abbrev pub shared_page : PageEntry → PageState → PageState
 shared_page entry x = record { entry = entry; own = x.own; lines = x.lines; base = x.base }
 
+-- a page that is seen as before, on the frame of another one and with these own lines
+abbrev pub rebased_page : List ℕ → PageState → PageState → PageState
+rebased_page own theirs x =
+    record { entry = record { perms = x.entry.perms; frame = theirs.entry.frame }; own = own; lines = x.lines; base = theirs.base }
+
+-- but for some lines a page is seen as the frame of another one has them
+abbrev pub SeesFrame : List ℕ → PageState → PageState → Type 0
+SeesFrame but x theirs = (line : ℕ) → line < PAGE_LINES → has_line but line ≡ false → line_in_page x.lines line ≡ line_in_page theirs.base line
+
 -- What is done to the state.
+
+-- the frame of a page, if that is there
+abbrev pub frame_in : State → ℕ → ℕ → Option ℕ
+frame_in state space page = option_map (λ (x : PageState). x.entry.frame) (page_in state space page)
+
+-- a page is on the zero frame, or no page of a space is on its frame
+abbrev pub IsAway : State → ℕ → ℕ → ℕ → Type 0
+IsAway state space from other =
+    (frame_in state from other ≡ Some state.zero_frame) ⊎ ((page : ℕ) → frame_in state space page ≡ frame_in state from other → ⊥)
+
+-- a page comes onto the frame of another one, if that is there, and is seen as before
+abbrev pub IsRebased : State → State → ℕ → ℕ → ℕ → ℕ → List ℕ → Type 0
+IsRebased old new space page from other own =
+    IfSome (page_in old from other) (λ theirs. new ≡ altered_page (rebased_page own theirs) old space page)
 
 -- whether stores to a page go into its frame
 abbrev pub writes_frame : State → ℕ → ℕ → Bool
@@ -80,6 +103,10 @@ with_shared state from to page =
     option_map_or
     (λ (entry : PageEntry). option_map_or (λ x. put_shared state to page (shared_page entry x)) (page_in state from page) state)
     (get (space_in state to).awaiting page) state
+
+-- a frame, unless it is the zero frame
+abbrev pub frame_but_zero : ℕ → ℕ → Option ℕ
+frame_but_zero zero_frame frame = if frame == zero_frame then None else Some frame
 
 -- a frame that is in range, and that no page names
 pub record IsNewFrame (state : State) (frame : ℕ) : Type 0 where

@@ -1,18 +1,19 @@
-use Rattle.std.specs.Prelude.{◌≡◌, ℕ, ◌+◌, ◌^◌, ◌<◌, ◌≤◌, ◌⊎◌, cond, nat_eq, List, Option, Some, None, IsSome, option_map, slice_set}
-use Rattle.unit_map.specs.Pieces.{CanSettle, free_units}
+use Rattle.std.specs.Prelude.{◌≡◌, ℕ, ◌+◌, ◌^◌, ◌<◌, ◌≤◌, ◌⊎◌, true, cond, nat_eq, List, Option, Some, None, IsSome, option_map, slice_set}
+use Rattle.unit_map.specs.Pieces.{AreSettled, CanSettle, free_units, units_in}
 use Rattle.unit_map.specs.declared.block.Block.{Block}
 use Rattle.store_compaction.specs.declared.moves.Move.{Move}
 use Rattle.store_compaction.specs.Next.{Ascend}
 use Rattle.overlay_address.specs.Names.{page_of, space_of}
-use Rattle.overlay_bits.specs.Lines.{with_line}
+use Rattle.overlay_bits.specs.Lines.{has_line, with_line}
 use Rattle.overlay_mapping_table.specs.declared.entry.Entry.{Entry}
 use Rattle.segment_store.specs.declared.segment.Segment.{Segment}
-use Rattle.segment_store.specs.Store.{Store, composed_line, frame_line}
-use Rattle.segment_store.specs.Changes.{AreCarried, FillsFrame, IsOutside, IsTarget, KeepsFrames, KeepsScratch, WholeSegmentsStay}
+use Rattle.segment_store.specs.Kept.{IsStore}
+use Rattle.segment_store.specs.Store.{Store, composed_line, frame_line, line_in, segment_at}
+use Rattle.segment_store.specs.Changes.{AreCarried, FillsFrame, IsOutside, IsTarget, KeepsFrames, KeepsOtherSegments, KeepsScratch, WholeSegmentsStay}
 use Rattle.space_maps.specs.Laws.{KeepsSpaces}
 use Rattle.space_maps.specs.Spaces.{page_in}
 use Rattle.space_ledger.specs.View.{LedgerView, PageView, overlay_at, with_block, with_overlay}
-use Rattle.overlay_pages.specs.Lines.{page_lines}
+use Rattle.overlay_pages.specs.Lines.{line_in_page, page_lines}
 use Rattle.overlay_pages.specs.State.{PageState}
 use Rattle.overlay_pages.specs.View.{IsJoined, IsJoinedWith, MemoryView, state_of, view_of}
 
@@ -110,6 +111,28 @@ laid store bits line bytes x = record {
   entry = x.entry;
   own = with_line bits line;
   lines = page_lines (laid_line store bits line bytes x.entry.frame);
+  base = x.base;
+}
+
+-- A segment began with lines that were given.
+pub record IsLaid (old new : Store) (owner : ℕ) (block : Block) (bits : List ℕ) (given : ℕ → List ℕ) : Type 0 where
+  pub fresh : segment_at old block.unit ≡ None
+  pub there : segment_at new block.unit ≡ Some (record { owner = owner; order = block.order; bits = bits })
+  pub elsewhere : (unit : ℕ) → (unit ≡ block.unit → ⊥) → segment_at new unit ≡ segment_at old unit
+  pub kept : KeepsOtherSegments old block.unit new
+  pub frames : KeepsFrames old new
+  pub lines : (i : ℕ) → i < 64 → has_line bits i ≡ true → line_in new block i ≡ given i
+  pub free : free_units new.blocks + 2 ^ block.order ≡ free_units old.blocks
+  pub whole : units_in new.blocks ≡ units_in old.blocks
+  pub settled : AreSettled old.blocks → AreSettled new.blocks
+  pub store : IsStore new
+
+-- a page with an overlay of lines that are given
+abbrev pub given_page : List ℕ → List (List ℕ) → PageState → PageState
+given_page bits given x = record {
+  entry = x.entry;
+  own = bits;
+  lines = page_lines (λ i. cond (has_line bits i) (line_in_page given i) (line_in_page x.base i));
   base = x.base;
 }
 

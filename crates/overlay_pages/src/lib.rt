@@ -19,6 +19,7 @@ mod moving;
 mod overlays;
 mod pages;
 mod placing;
+mod rebasing;
 mod settling;
 mod sharing;
 mod spots;

@@ -1,6 +1,6 @@
 //! The pages of all spaces.
 
-ghost use Rattle.std.specs.Prelude.{◌≡◌, ◌≢◌, ℕ, ◌+◌, ◌*◌, ◌<◌, ◌≤◌, ◌&&◌, not, List, [], ◌∷◌, IfOk, IfSome, IsSome, OnOk, OnErr, None, true, false, length, slice_index_or, unwrap_or};
+ghost use Rattle.std.specs.Prelude.{◌≡◌, ◌≢◌, ℕ, ◌+◌, ◌*◌, ◌<◌, ◌≤◌, ◌&&◌, not, List, [], ◌∷◌, IfOk, IfSome, IsSome, OnOk, OnErr, Some, None, true, false, length, slice_index_or, unwrap_or};
 ghost use Rattle.std.specs.Borrow.{Lends, sem, Array, u8 as byte};
 ghost use Rattle.std.specs.FinMap as map;
 ghost use Rattle.std.specs.Option.{is_some, option_and_then, option_map, option_map_or};
@@ -15,15 +15,17 @@ ghost use Rattle.space_ledger.specs.View.{frame_at, ledger_of};
 ghost use Rattle.space_ledger.specs.Space.{IsLeast};
 ghost use Rattle.space_ledger.specs.Calls.{IsNextOwn, NamesOnce};
 ghost use Rattle.overlay_pages.specs.Lines.{line_in_page, lines_of_bytes};
-ghost use Rattle.overlay_pages.specs.State.{base_of, books, memory_of};
-ghost use Rattle.overlay_pages.specs.Changes.{AreAbsent, Fits, HasCopyRoom, HasShareRoom, IsPlaced, brought, committed, copied, discarded, is_writable, limit_of, units_of, whole_page, with_brought, with_shared, with_written, with_zeros};
+ghost use Rattle.overlay_pages.specs.State.{PageState, base_of, books, memory_of};
+ghost use Rattle.overlay_pages.specs.Changes.{AreAbsent, Fits, HasCopyRoom, HasShareRoom, IsAway, IsPlaced, IsRebased, SeesFrame, brought, committed, copied, discarded, frame_but_zero, is_writable, limit_of, units_of, whole_page, with_brought, with_shared, with_written, with_zeros};
 ghost use Rattle.overlay_pages.specs.View.{HasOwnPlace, IsJoined, place_at, state_of};
 ghost use Rattle.overlay_pages.specs.Spots.{FindsLine, FindsPage, IsBroughtTo, IsFound, IsFoundPage};
 ghost use Rattle.overlay_pages.specs.Calls.{AreMapped, AreShared, AreZeros, AwaitBare, AwaitsLike, HasSettledBlocks, IsEmptyState, IsNextPage, KeepsWholeBlocks, MovesFewBeside, NoneAwaitsBelow, RisesBy, entries_in, with_line_at_place};
 ghost use Rattle.overlay_pages.specs.contracts.pages.OverlayPages.{the_row};
 
+use crate::frames::frame_but;
 use crate::overlays::{bring_found, bring_lines, drop_overlay};
 use crate::placing::{place_bytes, take_out, take_run_out};
+use crate::rebasing::rebase;
 use crate::settling::{commit, copy_commit};
 use crate::sharing::{share, share_below};
 use crate::spots::{FoundLine, FoundPage, Spot, parts_of};
@@ -219,6 +221,33 @@ impl OverlayPages {
         ensures joined { IsJoined self.now }
     {
         self.ledger.entry(space, page)
+    }
+
+    /// The frame of a page that is there. None exactly where it is the zero frame. Costs a look-up.
+    pub fn frame_of(&self, space: u16, page: u64) -> Option<u32>
+        requires there { IsSome (page_in (state_of self.now) space page) }
+        ensures frame { option_map (λ x. frame_but_zero (state_of self.now).zero_frame x.entry.frame)
+            (page_in (state_of self.now) space page) ≡ Some result }
+        ensures low { IfSome result (λ frame. frame < MOST_FRAMES) }
+        ensures joined { IsJoined self.now }
+    {
+        match self.ledger.entry(space, page) {
+            Some(entry) => frame_but(entry.frame, self.ledger.zero_frame()),
+            None => unreachable!(),
+        }
+    }
+
+    /// The permissions of a page that is there. Costs a look-up.
+    pub fn perms_of(&self, space: u16, page: u64) -> Perms
+        requires there { IsSome (page_in (state_of self.now) space page) }
+        ensures perms { option_map (λ x. x.entry.perms) (page_in (state_of self.now) space page)
+            ≡ Some result }
+        ensures joined { IsJoined self.now }
+    {
+        match self.ledger.entry(space, page) {
+            Some(entry) => entry.perms,
+            None => unreachable!(),
+        }
     }
 
     /// The own lines of a page that is there. Costs a look-up.
@@ -531,6 +560,30 @@ impl OverlayPages {
     {
         let store = &mut self.store;
         drop_overlay(store, &mut self.ledger, space, page);
+    }
+
+    /// A page that is alone comes onto the frame of another page, on which no page of its space is unless it is the zero frame: with
+    /// these lines as its own, and as it is seen. All its other lines are in that frame already. No page of its space awaits. Takes no
+    /// memory. Costs a copy of the page and of each of these lines, and moves that copy 60 lines at most.
+    pub fn rebase_page(&mut self, space: u16, page: u64, from: u16, other: u64, lines: Bits)
+        requires there { IsSome (page_in (state_of self.old) space page) }
+        requires alone { is_alone (books (state_of self.old)) space page ≡ true }
+        requires none_awaits { (space_in (state_of self.old) space).awaiting ≡ map.empty }
+        requires theirs { IsSome (page_in (state_of self.old) from other) }
+        requires away { IsAway (state_of self.old) space from other }
+        requires sees { (x y : PageState) → page_in (state_of self.old) space page ≡ Some x
+            → page_in (state_of self.old) from other ≡ Some y → SeesFrame lines x y }
+        ensures { IsRebased (state_of self.old) (state_of self.new) space page from other lines }
+    {
+        rebase(
+            &mut self.store,
+            &mut self.ledger,
+            space,
+            page,
+            from,
+            other,
+            lines,
+        );
     }
 
     /// No two free blocks below a frame are equal in size: that holds between calls, so there is nothing to move. No page changes, and

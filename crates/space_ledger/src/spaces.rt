@@ -199,6 +199,14 @@ impl SpaceLedger {
         is_only(&self.pool, self.tables.zero(), frame)
     }
 
+    /// The zero frame.
+    #[inline]
+    pub fn zero_frame(&self) -> u32
+        ensures { result ≡ self.now.zero_frame }
+    {
+        self.tables.zero()
+    }
+
     /// How many frames there are.
     pub fn frames(&self) -> u32
         ensures { result ≡ self.now.frames }
