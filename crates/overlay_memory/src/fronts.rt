@@ -114,8 +114,13 @@ impl Fronts {
     pub(crate) fn put(&mut self, page: u64, found: Option<FoundPage>)
         ensures { self.new ≡ with_head page found self.old }
     {
+        // it is copied, so that both have it
+        let seen = match &found {
+            Some(known) => Some(*known),
+            None => None,
+        };
         self.heads[set_of(page)] = found;
-        self.seen[place_of(page)] = found;
+        self.seen[place_of(page)] = seen;
         self.any = true;
     }
 }
