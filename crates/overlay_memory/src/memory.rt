@@ -15,11 +15,11 @@ ghost use Rattle.space_ledger.specs.Space.{IsLeast};
 ghost use Rattle.space_ledger.specs.Calls.{IsNextOwn, NamesOnce};
 ghost use Rattle.overlay_pages.specs.Lines.{line_in_page};
 ghost use Rattle.overlay_pages.specs.State.{books, memory_of};
-ghost use Rattle.overlay_pages.specs.Changes.{AreAbsent, Fits, HasCopyRoom, HasShareRoom, IsPlaced, committed, copied, discarded, is_writable, limit_of, units_of, with_shared, with_written, with_zeros};
+ghost use Rattle.overlay_pages.specs.Changes.{AreAbsent, Fits, HasCopyRoom, HasShareRoom, IsPlaced, committed, copied, discarded, frame_but_zero, is_writable, limit_of, units_of, with_shared, with_written, with_zeros};
 ghost use Rattle.overlay_pages.specs.View.{HasOwnPlace, IsJoined, place_at};
 ghost use Rattle.overlay_pages.specs.Calls.{AreMapped, AreShared, AreZeros, AwaitBare, AwaitsLike, HasSettledBlocks, IsEmptyState, IsNextPage, KeepsWholeBlocks, MovesFewBeside, NoneAwaitsBelow, entries_in};
 ghost use Rattle.overlay_memory.specs.ApartLaws.{ArePagesApart};
-ghost use Rattle.overlay_memory.specs.Access.{IsFirstAbsent, Places, Reads, Stores};
+ghost use Rattle.overlay_memory.specs.Access.{FitsStored, IsFirstAbsent, IsStored, Places, Reads, Stores, line_address};
 ghost use Rattle.overlay_memory.specs.Code.{IsCodeLine};
 ghost use Rattle.overlay_memory.specs.Pieces.{emptied_space};
 ghost use Rattle.overlay_memory.specs.Room.{FallsShort};
@@ -35,7 +35,7 @@ use crate::fronts::Fronts;
 use crate::reading::{is_in_line, line_of, load_line, read_bytes};
 use crate::removing::{remove_pages, unmap_pages};
 use crate::room::{shortage_by, shortage_of};
-use crate::storing::{store_line, write_pages};
+use crate::storing::{put_line, store_line, write_pages};
 use crate::translating::translate_access;
 use bitflags::Flags;
 use overlay_bits::Bits;
@@ -252,6 +252,23 @@ impl OverlayMemory {
         write_pages(&mut self.pages, &mut self.cache, space, address, bytes)
     }
 
+    /// A line of a page that is there becomes these bytes, as by a store of them, whatever the permissions. The units after it are there.
+    /// The space isn't speculating, and no page of it awaits. Takes no memory. Costs what `write` costs.
+    pub fn put_line(&mut self, space: u16, page: u64, line: u8, bytes: &[u8; 64])
+        requires there { IsSome (page_in (state_of self.old) space page) }
+        requires line { line < PAGE_LINES }
+        requires settled { (space_in (state_of self.old) space).speculating ≡ false }
+        requires none_awaits { NoneAwaits (state_of self.old) space }
+        requires fits { FitsStored (state_of self.old) space (line_address page line) LINE_BYTES }
+        ensures stored { IsStored (state_of self.old) (state_of self.new) space
+            (line_address page line) bytes.now }
+        ensures small { AreOverlaysSmall (state_of self.new) }
+        ensures translations { translations_of self.new ≡ translations_of self.old }
+    {
+        self.fronts.clear();
+        put_line(&mut self.pages, &mut self.cache, space, page, line, bytes);
+    }
+
     /// Fills `into` with the bytes from an address on, for which each page needs the permission: X for a fetch, R for a load.
     /// Unmapped or Forbidden exactly at the first byte whose page isn't there or lacks it; Full never.
     #[inline(always)]
@@ -365,6 +382,27 @@ impl OverlayMemory {
         ensures { result ≡ is_alone (books (state_of self.now)) space page }
     {
         self.pages.is_alone(space, page)
+    }
+
+    /// The number of the frame of a page that is there. None exactly where it is on the zero frame. Costs a look-up.
+    pub fn frame_of(&self, space: u16, page: u64) -> Option<u32>
+        requires there { IsSome (page_in (state_of self.now) space page) }
+        ensures frame { option_map (λ x. frame_but_zero (state_of self.now).zero_frame x.entry.frame)
+            (page_in (state_of self.now) space page) ≡ Some result }
+        ensures low { IfSome result (λ frame. frame < MOST_FRAMES) }
+        ensures joined { IsJoined self.now.pages }
+    {
+        self.pages.frame_of(space, page)
+    }
+
+    /// The permissions of a page that is there. Costs a look-up.
+    pub fn perms_of(&self, space: u16, page: u64) -> Perms
+        requires there { IsSome (page_in (state_of self.now) space page) }
+        ensures perms { option_map (λ x. x.entry.perms) (page_in (state_of self.now) space page)
+            ≡ Some result }
+        ensures joined { IsJoined self.now.pages }
+    {
+        self.pages.perms_of(space, page)
     }
 
     /// The own lines of a page that is there. Costs a look-up.
