@@ -22,6 +22,7 @@ ghost use Rattle.overlay_memory.specs.ApartLaws.{ArePagesApart};
 ghost use Rattle.overlay_memory.specs.Access.{FitsStored, IsFirstAbsent, IsStored, Places, Reads, Stores, line_address};
 ghost use Rattle.overlay_memory.specs.Code.{IsCodeLine};
 ghost use Rattle.overlay_memory.specs.Pieces.{emptied_space};
+ghost use Rattle.overlay_memory.specs.Rebased.{CanRebase, HasRebased, IsAloneAway, RebasesAlike};
 ghost use Rattle.overlay_memory.specs.Room.{FallsShort};
 ghost use Rattle.overlay_memory.specs.Translated.{access_at, after_access};
 ghost use Rattle.overlay_memory.specs.View.{AreOverlaysSmall, AreTrue, NoneAwaits, state_of, translations_of, with_region_line};
@@ -30,6 +31,7 @@ ghost use Rattle.translation_cache.specs.Formed.{IsFormed};
 ghost use Rattle.translation_cache.specs.Translations.{flushed, no_translations, with_hits};
 ghost use Rattle.overlay_memory.specs.contracts.memory.OverlayMemory.{the_row};
 
+use crate::comparing::lines_apart;
 use crate::error::{MemoryError, Shortage, SpaceError, result_at};
 use crate::fronts::Fronts;
 use crate::reading::{is_in_line, line_of, load_line, read_bytes};
@@ -46,6 +48,9 @@ use sizes::{FRAME_UNITS, PAGE_BYTES};
 use std::alloc::{AllocError, Global};
 use std::marker::Model;
 use translation_cache::Cache;
+
+/// The most own lines of a page in a space that isn't speculating.
+const MOST_OWN: u32 = 31;
 
 /// The memories of all spaces. Spaces are numbered from 1 to 32,767, pages are below 2^26. A space that a call names is there,
 /// and no page of it awaits `share_page`, where the call doesn't say otherwise.
@@ -460,6 +465,55 @@ impl OverlayMemory {
         self.fronts.clear();
         self.pages.discard_page(space, page);
         self.cache.flush(space);
+    }
+
+    /// A page that is alone comes onto the frame of another page, and gives its own up: what differs there becomes its own lines. No page
+    /// of its space is on that frame, unless it is the zero frame, and at most 31 lines are apart. Neither space is speculating, and no
+    /// page of the first one awaits. Every memory stays. Takes no memory. Costs a comparison of each line, a copy of the page and of each
+    /// line that is apart, and moves that copy 60 lines at most.
+    pub fn rebase_page(&mut self, space: u16, page: u64, from: u16, other: u64)
+        requires there { IsSome (page_in (state_of self.old) space page) }
+        requires theirs { IsSome (page_in (state_of self.old) from other) }
+        requires settled { (space_in (state_of self.old) space).speculating ≡ false }
+        requires settled_from { (space_in (state_of self.old) from).speculating ≡ false }
+        requires none_awaits { NoneAwaits (state_of self.old) space }
+        requires can { CanRebase (state_of self.old) space page from other }
+        ensures rebased { HasRebased (state_of self.old) (state_of self.new) space page from other }
+        ensures translations { translations_of self.new ≡ flushed space (translations_of self.old) }
+    {
+        match self.rebase_if_alike(space, page, from, other, 64) {
+            None => {}
+            Some(_) => unreachable!(),
+        }
+    }
+
+    /// As `rebase_page`, where it isn't known how many lines are apart: None where it is done. Else how many they are, which are more than
+    /// 31; of more than `most`, at least 31, it may tell fewer, and more than `most`. The comparison ends there.
+    pub fn rebase_if_alike(
+        &mut self,
+        space: u16,
+        page: u64,
+        from: u16,
+        other: u64,
+        most: u32,
+    ) -> Option<u32>
+        requires there { IsSome (page_in (state_of self.old) space page) }
+        requires theirs { IsSome (page_in (state_of self.old) from other) }
+        requires settled { (space_in (state_of self.old) space).speculating ≡ false }
+        requires settled_from { (space_in (state_of self.old) from).speculating ≡ false }
+        requires none_awaits { NoneAwaits (state_of self.old) space }
+        requires apart { IsAloneAway (state_of self.old) space page from other }
+        requires most { 31 ≤ most }
+        ensures { RebasesAlike self.old self.new space page from other most result }
+    {
+        let lines = lines_apart(&self.pages, space, page, from, other, most);
+        if lines.len() > MOST_OWN {
+            return Some(lines.len());
+        }
+        self.fronts.clear();
+        self.pages.rebase_page(space, page, from, other, lines);
+        self.cache.flush(space);
+        None
     }
 
     /// Shares a page with a space in which it awaits as the least, with the frame that it has: it gets its lines, and an overlay
