@@ -17,3 +17,5 @@ pub mod Truths
 pub mod Counting
 pub mod Fronting
 pub mod Noting
+pub mod Compared
+pub mod Rebasing

@@ -266,7 +266,7 @@ zeros_translated old new s p n entry t is holds settled all =
     (λ far. inr (sym (put.beside s r (λ same within. let no = sym far ∙ within in cc)) ∙ there))))) all
 
 -- a page put
-put_translated : (old new : State) (s p : ℕ) (x : PageState) (t : Translations Cached) → new ≡ put_page old s p x → holds_space old s ≡ true
+pub put_translated : (old new : State) (s p : ℕ) (x : PageState) (t : Translations Cached) → new ≡ put_page old s p x → holds_space old s ≡ true
     → (space_in old s).awaiting ≡ empty → length x.own ≤ 31 → AreTranslated old t → AreTranslated new (flushed s t)
 put_translated old new s p x t is holds settled few all = settled_translated old new s t settled
     (λ q. ap (λ v. (space_in v q).awaiting) is ∙ (keeps_page_put old s p x holds).awaiting q)
@@ -495,13 +495,18 @@ refused_translated old new t same entries apart small = record {
   small = subst (λ (m : MemoryView). AreOverlaysSmall (seen.state_of m)) (sym same) small;
 }
 
+pub put_stored_translated : (old new : State) (s address : ℕ) (bytes : List ℕ) (t : Translations Cached) → IsStored old new s address bytes → AreTrue new t → AwaitApart old
+    → AreOverlaysSmall old → AreTranslated new t
+put_stored_translated old new s address bytes t stored entries apart small = record {
+  entries = entries;
+  apart = stored_apart old new s address bytes stored apart;
+  small = small_stored old new s address bytes stored small;
+}
+
 pub stored_translated : (old new : MemoryView) (s address : ℕ) (bytes : List ℕ) (r : Result (Unit {0}) MemoryError) (t : Translations Cached)
     → Stores old new s address bytes r → AreTrue (seen.state_of new) t → AwaitApart (seen.state_of old) → AreOverlaysSmall (seen.state_of old) → AreTranslated (seen.state_of new) t
-stored_translated old new s address bytes (Ok done) t stores entries apart small = record {
-  entries = entries;
-  apart = stored_apart (seen.state_of old) (seen.state_of new) s address bytes stores.1 apart;
-  small = small_stored (seen.state_of old) (seen.state_of new) s address bytes stores.1 small;
-}
+stored_translated old new s address bytes (Ok done) t stores entries apart small =
+    put_stored_translated (seen.state_of old) (seen.state_of new) s address bytes t stores.1 entries apart small
 stored_translated old new s address bytes (Err (Unmapped at)) t stores entries apart small = refused_translated old new t stores.1 entries apart small
 stored_translated old new s address bytes (Err (Forbidden at)) t stores entries apart small = refused_translated old new t stores.1 entries apart small
 stored_translated old new s address bytes (Err (Full needed limit)) t stores entries apart small = refused_translated old new t stores.1.kept entries apart small

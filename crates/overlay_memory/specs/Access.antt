@@ -1,4 +1,4 @@
-use Rattle.std.specs.Prelude.{◌≡◌, ℕ, ◌+◌, ◌/◌, ◌%◌, ◌<◌, ◌≤◌, true, List, length, Option, Some, None, IsSome, Result, Ok, Err}
+use Rattle.std.specs.Prelude.{◌≡◌, ℕ, ◌+◌, ◌*◌, ◌/◌, ◌%◌, ◌<◌, ◌≤◌, true, List, length, Option, Some, None, IsSome, Result, Ok, Err}
 use Rattle.std.specs.FinMap.{FinMap, get}
 use Rattle.std.specs.Ordering.{nat_cmp}
 use Rattle.number_maps.specs.Views.{viewed}
@@ -61,6 +61,10 @@ stored_books state space address count = ledger_after (Store (space_in state spa
 -- there are units enough for it
 abbrev pub FitsStored : State → ℕ → ℕ → ℕ → Type 0
 FitsStored state space address count = units (stored_books state space address count) ≤ limit_of state
+
+-- where a line of a page begins
+abbrev pub line_address : ℕ → ℕ → ℕ
+line_address page line = PAGE_BYTES * page + LINE_BYTES * line
 
 -- which pages a space has, and the permissions of each
 unfoldable pub permissions_in : State → ℕ → FinMap nat_cmp Perms

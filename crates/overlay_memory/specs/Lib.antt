@@ -1,4 +1,4 @@
--- In reading order: what memories are seen as, and what becomes of translations; whether units fit, how reads and stores come out, and what they come to piece by piece; then laws: of states,
+-- In reading order: what memories are seen as, and what becomes of translations; whether units fit, how reads and stores come out, and what they come to piece by piece, and pages that are put on other pages; then laws: of states,
 -- of pages that are there and of their frames, of what own lines count and how many a page has, and of what is true of every memory.
 pub mod View
 pub mod Code
@@ -8,6 +8,7 @@ pub mod Room
 pub mod Access
 pub mod Fronts
 pub mod Pieces
+pub mod Rebased
 pub mod StateMemory
 pub mod PageLaws
 pub mod ApartLaws

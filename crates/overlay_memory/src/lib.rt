@@ -5,6 +5,7 @@
 //! pages stand for, of the memory, the base and the ledger that are functions of it, and of the lists without what
 //! their entries hold.
 //!
+//! - `comparing`: pages that are compared line by line
 //! - `error`: why a call isn't done
 //! - `fronts`: pages at the front of their lists of translations
 //! - `memory`: the public type
@@ -16,6 +17,7 @@
 //! - `translating`: pages that accesses go through, and what entries hold of them
 #![tactic(auto)]
 
+mod comparing;
 mod error;
 mod fronts;
 mod memory;

@@ -15,13 +15,14 @@ ghost use Rattle.space_ledger.specs.Space.{IsLeast};
 ghost use Rattle.space_ledger.specs.Calls.{IsNextOwn, NamesOnce};
 ghost use Rattle.overlay_pages.specs.Lines.{line_in_page};
 ghost use Rattle.overlay_pages.specs.State.{books, memory_of};
-ghost use Rattle.overlay_pages.specs.Changes.{AreAbsent, Fits, HasCopyRoom, HasShareRoom, IsPlaced, committed, copied, discarded, is_writable, limit_of, units_of, with_shared, with_written, with_zeros};
+ghost use Rattle.overlay_pages.specs.Changes.{AreAbsent, Fits, HasCopyRoom, HasShareRoom, IsPlaced, committed, copied, discarded, frame_but_zero, is_writable, limit_of, units_of, with_shared, with_written, with_zeros};
 ghost use Rattle.overlay_pages.specs.View.{HasOwnPlace, IsJoined, place_at};
 ghost use Rattle.overlay_pages.specs.Calls.{AreMapped, AreShared, AreZeros, AwaitBare, AwaitsLike, HasSettledBlocks, IsEmptyState, IsNextPage, KeepsWholeBlocks, MovesFewBeside, NoneAwaitsBelow, entries_in};
 ghost use Rattle.overlay_memory.specs.ApartLaws.{ArePagesApart};
-ghost use Rattle.overlay_memory.specs.Access.{IsFirstAbsent, Places, Reads, Stores};
+ghost use Rattle.overlay_memory.specs.Access.{FitsStored, IsFirstAbsent, IsStored, Places, Reads, Stores, line_address};
 ghost use Rattle.overlay_memory.specs.Code.{IsCodeLine};
 ghost use Rattle.overlay_memory.specs.Pieces.{emptied_space};
+ghost use Rattle.overlay_memory.specs.Rebased.{CanRebase, HasRebased, IsAloneAway, RebasesAlike};
 ghost use Rattle.overlay_memory.specs.Room.{FallsShort};
 ghost use Rattle.overlay_memory.specs.Translated.{access_at, after_access};
 ghost use Rattle.overlay_memory.specs.View.{AreOverlaysSmall, AreTrue, NoneAwaits, state_of, translations_of, with_region_line};
@@ -30,12 +31,13 @@ ghost use Rattle.translation_cache.specs.Formed.{IsFormed};
 ghost use Rattle.translation_cache.specs.Translations.{flushed, no_translations, with_hits};
 ghost use Rattle.overlay_memory.specs.contracts.memory.OverlayMemory.{the_row};
 
+use crate::comparing::lines_apart;
 use crate::error::{MemoryError, Shortage, SpaceError, result_at};
 use crate::fronts::Fronts;
 use crate::reading::{is_in_line, line_of, load_line, read_bytes};
 use crate::removing::{remove_pages, unmap_pages};
 use crate::room::{shortage_by, shortage_of};
-use crate::storing::{store_line, write_pages};
+use crate::storing::{put_line, store_line, write_pages};
 use crate::translating::translate_access;
 use bitflags::Flags;
 use overlay_bits::Bits;
@@ -46,6 +48,9 @@ use sizes::{FRAME_UNITS, PAGE_BYTES};
 use std::alloc::{AllocError, Global};
 use std::marker::Model;
 use translation_cache::Cache;
+
+/// The most own lines of a page in a space that isn't speculating.
+const MOST_OWN: u32 = 31;
 
 /// The memories of all spaces. Spaces are numbered from 1 to 32,767, pages are below 2^26. A space that a call names is there,
 /// and no page of it awaits `share_page`, where the call doesn't say otherwise.
@@ -252,6 +257,23 @@ impl OverlayMemory {
         write_pages(&mut self.pages, &mut self.cache, space, address, bytes)
     }
 
+    /// A line of a page that is there becomes these bytes, as by a store of them, whatever the permissions. The units after it are there.
+    /// The space isn't speculating, and no page of it awaits. Takes no memory. Costs what `write` costs.
+    pub fn put_line(&mut self, space: u16, page: u64, line: u8, bytes: &[u8; 64])
+        requires there { IsSome (page_in (state_of self.old) space page) }
+        requires line { line < PAGE_LINES }
+        requires settled { (space_in (state_of self.old) space).speculating ≡ false }
+        requires none_awaits { NoneAwaits (state_of self.old) space }
+        requires fits { FitsStored (state_of self.old) space (line_address page line) LINE_BYTES }
+        ensures stored { IsStored (state_of self.old) (state_of self.new) space
+            (line_address page line) bytes.now }
+        ensures small { AreOverlaysSmall (state_of self.new) }
+        ensures translations { translations_of self.new ≡ translations_of self.old }
+    {
+        self.fronts.clear();
+        put_line(&mut self.pages, &mut self.cache, space, page, line, bytes);
+    }
+
     /// Fills `into` with the bytes from an address on, for which each page needs the permission: X for a fetch, R for a load.
     /// Unmapped or Forbidden exactly at the first byte whose page isn't there or lacks it; Full never.
     #[inline(always)]
@@ -367,6 +389,27 @@ impl OverlayMemory {
         self.pages.is_alone(space, page)
     }
 
+    /// The number of the frame of a page that is there. None exactly where it is on the zero frame. Costs a look-up.
+    pub fn frame_of(&self, space: u16, page: u64) -> Option<u32>
+        requires there { IsSome (page_in (state_of self.now) space page) }
+        ensures frame { option_map (λ x. frame_but_zero (state_of self.now).zero_frame x.entry.frame)
+            (page_in (state_of self.now) space page) ≡ Some result }
+        ensures low { IfSome result (λ frame. frame < MOST_FRAMES) }
+        ensures joined { IsJoined self.now.pages }
+    {
+        self.pages.frame_of(space, page)
+    }
+
+    /// The permissions of a page that is there. Costs a look-up.
+    pub fn perms_of(&self, space: u16, page: u64) -> Perms
+        requires there { IsSome (page_in (state_of self.now) space page) }
+        ensures perms { option_map (λ x. x.entry.perms) (page_in (state_of self.now) space page)
+            ≡ Some result }
+        ensures joined { IsJoined self.now.pages }
+    {
+        self.pages.perms_of(space, page)
+    }
+
     /// The own lines of a page that is there. Costs a look-up.
     #[inline]
     pub fn lines_of(&self, space: u16, page: u64) -> Bits
@@ -422,6 +465,55 @@ impl OverlayMemory {
         self.fronts.clear();
         self.pages.discard_page(space, page);
         self.cache.flush(space);
+    }
+
+    /// A page that is alone comes onto the frame of another page, and gives its own up: what differs there becomes its own lines. No page
+    /// of its space is on that frame, unless it is the zero frame, and at most 31 lines are apart. Neither space is speculating, and no
+    /// page of the first one awaits. Every memory stays. Takes no memory. Costs a comparison of each line, a copy of the page and of each
+    /// line that is apart, and moves that copy 60 lines at most.
+    pub fn rebase_page(&mut self, space: u16, page: u64, from: u16, other: u64)
+        requires there { IsSome (page_in (state_of self.old) space page) }
+        requires theirs { IsSome (page_in (state_of self.old) from other) }
+        requires settled { (space_in (state_of self.old) space).speculating ≡ false }
+        requires settled_from { (space_in (state_of self.old) from).speculating ≡ false }
+        requires none_awaits { NoneAwaits (state_of self.old) space }
+        requires can { CanRebase (state_of self.old) space page from other }
+        ensures rebased { HasRebased (state_of self.old) (state_of self.new) space page from other }
+        ensures translations { translations_of self.new ≡ flushed space (translations_of self.old) }
+    {
+        match self.rebase_if_alike(space, page, from, other, 64) {
+            None => {}
+            Some(_) => unreachable!(),
+        }
+    }
+
+    /// As `rebase_page`, where it isn't known how many lines are apart: None where it is done. Else how many they are, which are more than
+    /// 31; of more than `most`, at least 31, it may tell fewer, and more than `most`. The comparison ends there.
+    pub fn rebase_if_alike(
+        &mut self,
+        space: u16,
+        page: u64,
+        from: u16,
+        other: u64,
+        most: u32,
+    ) -> Option<u32>
+        requires there { IsSome (page_in (state_of self.old) space page) }
+        requires theirs { IsSome (page_in (state_of self.old) from other) }
+        requires settled { (space_in (state_of self.old) space).speculating ≡ false }
+        requires settled_from { (space_in (state_of self.old) from).speculating ≡ false }
+        requires none_awaits { NoneAwaits (state_of self.old) space }
+        requires apart { IsAloneAway (state_of self.old) space page from other }
+        requires most { 31 ≤ most }
+        ensures { RebasesAlike self.old self.new space page from other most result }
+    {
+        let lines = lines_apart(&self.pages, space, page, from, other, most);
+        if lines.len() > MOST_OWN {
+            return Some(lines.len());
+        }
+        self.fronts.clear();
+        self.pages.rebase_page(space, page, from, other, lines);
+        self.cache.flush(space);
+        None
     }
 
     /// Shares a page with a space in which it awaits as the least, with the frame that it has: it gets its lines, and an overlay

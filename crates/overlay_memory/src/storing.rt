@@ -7,7 +7,7 @@ ghost use Rattle.overlay_pages.specs.Changes.{is_writable};
 ghost use Rattle.overlay_pages.specs.State.{memory_of};
 ghost use Rattle.overlay_pages.specs.View.{IsJoined, state_of};
 ghost use Rattle.overlay_pages.specs.Spots.{IsFound, IsFoundPageAt};
-ghost use Rattle.overlay_memory.specs.Access.{FitsStored, IsStored, Stores};
+ghost use Rattle.overlay_memory.specs.Access.{FitsStored, IsStored, Stores, line_address};
 ghost use Rattle.overlay_memory.specs.Fronts.{AreFronts};
 ghost use Rattle.overlay_memory.specs.Pieces.{AreWritable, IsFilled, Permits, lines_under, result_at};
 ghost use Rattle.overlay_memory.specs.View.{AreOverlaysSmall, AreTrue, NoneAwaits};
@@ -129,6 +129,38 @@ fn put_in_page(
     bring_lines(pages, cache, space, page, lines);
     fill_page(pages, space, page, at, bytes);
     settle_if_large(pages, cache, space, page);
+}
+
+/// A line of a page that is there becomes these bytes, as by a store of them, whatever the permissions. The units after it are there.
+pub(crate) fn put_line(
+    pages: &mut OverlayPages,
+    cache: &mut Cache,
+    space: u16,
+    page: u64,
+    line: u8,
+    bytes: &[u8; 64],
+)
+    requires there { IsSome (page_in (state_of pages.old) space page) }
+    requires line { line < PAGE_LINES }
+    requires fits { FitsStored (state_of pages.old) space (line_address page line) LINE_BYTES }
+    requires none_awaits { NoneAwaits (state_of pages.old) space }
+    requires held { AreTrue (state_of pages.old) cache.old }
+    ensures stored { IsStored (state_of pages.old) (state_of pages.new) space
+        (line_address page line) bytes.now }
+    ensures held { AreTrue (state_of pages.new) cache.new }
+    ensures lists { bare cache.new ≡ bare cache.old }
+{
+    let _own = pages.lines_of(space, page);
+    let at = LINE_BYTES * usize::from(line);
+    let address = PAGE_BYTES as u64 * page + at as u64;
+    put_in_page(
+        pages,
+        cache,
+        space,
+        address,
+        lines_at(at, LINE_BYTES),
+        bytes,
+    );
 }
 
 /// Stores bytes, some and all in one page: permission first, then units, then the bytes with their lines.
