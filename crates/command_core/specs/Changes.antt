@@ -1,11 +1,11 @@
-use Rattle.std.specs.Prelude.{ℕ, Option, true, false, List, [], ◌∷◌, Some, None, Result, Ok, Err}
+use Rattle.std.specs.Prelude.{◌≡◌, ℕ, Option, true, false, List, [], ◌∷◌, Some, None, Result, Ok, Err}
 use Rattle.std.specs.Option.{option_map, option_map_or}
 use Rattle.std.specs.FinMap.{get, remove}
 use Rattle.elf_loader.specs.Accepted.{file_refusal}
 use Rattle.elf_loader.specs.Fields.{entry_address}
 use Rattle.rv_asm.specs.declared.error.AsmError.{AsmError}
 use Rattle.rv_asm.specs.declared.error.AsmError.TheVariants as asm
-use Rattle.rv_asm.specs.Assembly.{assembled}
+use Rattle.rv_asm.specs.Assembly.{assembled, IsFileOf}
 use Rattle.ledger.specs.Events as event
 use Rattle.machine_core.specs.Process.{Process}
 use Rattle.machine_core.specs.Load.{load_pages, loaded_process, page_count}
@@ -114,6 +114,23 @@ asm_answer (asm.OutOfReach k) = Refused (AsmOutOfReach k)
 asm_answer asm.Empty = Refused AsmEmpty
 asm_answer asm.TooMany = Refused AsmTooMany
 asm_answer asm.Memory = Memory
+
+-- what is known of the file of a text whose process was loaded: it is the text's, and the entry is that of its words
+pub record IsLoadedText (text : List ℕ) (entry : ℕ) : Type 0 where
+  pub file : List ℕ
+  pub of_text : assembled text ≡ Ok file
+  pub is_file : IsFileOf text file
+  pub entry_is : entry ≡ 0x10078
+
+-- the file of a text is never refused
+abbrev pub IsNoFileCode : Code → Type 0
+IsNoFileCode (Elf e) = ⊥
+IsNoFileCode code = Unit {0}
+
+abbrev pub TakesText : List ℕ → Answer → Type 0
+TakesText text (Loaded p pages entry) = IsLoadedText text entry
+TakesText text (Refused code) = IsNoFileCode code
+TakesText text answer = Unit {0}
 
 -- an answer that has a line, or want of memory
 abbrev pub CanBeTold : Answer → Type 0

@@ -10,7 +10,7 @@ ghost use Rattle.command_core.specs.Copies.{fork_row};
 ghost use Rattle.command_core.specs.ProcessChanges.{process_row};
 ghost use Rattle.command_core.specs.Debugging.{break_row, poke_row, unbreak_row};
 ghost use Rattle.command_core.specs.Checkpoints.{checkpoint_row, forget_row, on_checkpoint, restore_row};
-ghost use Rattle.command_core.specs.Changes.{CanBeTold, answer_of, asm_answer, asm_row, change_row, drop_row, load_row, on_process};
+ghost use Rattle.command_core.specs.Changes.{CanBeTold, TakesText, answer_of, asm_answer, asm_row, change_row, drop_row, load_row, on_process};
 ghost use Rattle.command_core.specs.Commands.{RunsLoaded};
 ghost use Rattle.command_core.specs.Looks.{BeginsStep, CanRead, LooksAt, LooksAtCheckpoint, NextProcess, ReadsBytes, counts_of, look_of, looked_at};
 ghost use Rattle.command_core.specs.Ample.{IsAmplyDone};
@@ -214,13 +214,14 @@ impl Session {
         }
     }
 
-    /// Assembles a text, and makes a process of its file, under the next number: `Loaded`, or why not. A text has at most 16 MiB. After
-    /// want of memory everything is as before.
+    /// Assembles a text of at most 16 MiB, and makes a process of its file, under the next number: `Loaded`, or why not. The file itself is never
+    /// refused. `Full` as for a load. After want of memory everything is as before.
     pub fn assemble(&mut self, text: &[u8]) -> Answer
         requires { length text.now ≤ MOST_FILE_BYTES }
         ensures gives { GivesChange (asm_row text.now (registry_of self.old.state)) self.old.state
             result self.new.state }
         ensures stands { GivesAs (asm_row text.now) self.old result self.new }
+        ensures taken { TakesText text.now result }
         ensures ample { IsAmplyDone (asm_row text.now) self.old result }
         ensures want { WantKeeps self.old result self.new }
         ensures told { CanBeTold result }
