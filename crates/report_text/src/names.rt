@@ -54,7 +54,7 @@ fn elf_text(error: ElfError) -> &'static [u8]
 fn push_numbered(line: &mut Line, name: &[u8], k: u32)
     requires short { length name.now ≤ 32 }
     requires room { array_vec_len line.old + 64 ≤ LINE_ROOM }
-    ensures text { line.new.items ≡ line.old.items ++ name.now ++ in_decimal k }
+    ensures text { line.new.items ≡ line.old.items ++ (name.now ++ in_decimal k) }
     ensures len { array_vec_len line.new ≤ array_vec_len line.old + 64 }
 {
     push_text(line, name);

@@ -98,7 +98,9 @@ fn fill(alloc: Global, rest: &str) -> Result<Vec<u8>> {
 
 /// `COUNT TEXT`: that line so many times.
 fn counted_lines(alloc: Global, rest: &str) -> Result<Vec<u8>> {
-    let (count, text) = rest.split_once(' ').context("lines have a count and a text")?;
+    let (count, text) = rest
+        .split_once(' ')
+        .context("lines have a count and a text")?;
     lines(alloc, number(count)?, text)
 }
 
