@@ -68,8 +68,8 @@ refused_taken text TooMany = tt
 refused_taken text Memory = tt
 
 -- a text whose file is loaded
-pub row_is : (text file : List ℕ) → assembled text ≡ Ok file → asm_row text ≡ load_row file
-row_is text file is = ap asm_by is
+pub loads_text : (text file bytes : List ℕ) → assembled text ≡ Ok file → bytes ≡ file → load_row bytes ≡ asm_row text
+loads_text text file bytes is same = ap load_row same ∙ sym (ap asm_by is)
 
 module _ (text file : List ℕ) (is : assembled text ≡ Ok file) (of_text : IsFileOf text file) (s : State) where
   refusals_are : (next : Option ℕ) → first_refusal (load_under next file (registry_of s)).refusals ≡ first_refusal (by_numbers_used next ∷ [])

@@ -10,7 +10,7 @@ ghost use Rattle.command_core.specs.Copies.{fork_row};
 ghost use Rattle.command_core.specs.ProcessChanges.{process_row};
 ghost use Rattle.command_core.specs.Debugging.{break_row, poke_row, unbreak_row};
 ghost use Rattle.command_core.specs.Checkpoints.{checkpoint_row, forget_row, on_checkpoint, restore_row};
-ghost use Rattle.command_core.specs.Changes.{CanBeTold, TakesText, answer_of, asm_answer, asm_row, change_row, drop_row, load_row, on_process};
+ghost use Rattle.command_core.specs.Changes.{CanBeTold, TakesText, answer_of, asm_row, change_row, drop_row, load_row, on_process};
 ghost use Rattle.command_core.specs.Commands.{RunsLoaded};
 ghost use Rattle.command_core.specs.Looks.{BeginsStep, CanRead, LooksAt, LooksAtCheckpoint, NextProcess, ReadsBytes, counts_of, look_of, looked_at};
 ghost use Rattle.command_core.specs.Ample.{IsAmplyDone};
@@ -18,6 +18,7 @@ ghost use Rattle.command_core.specs.Standing.{SessionAnswersAs, GivesAs, HoldsFo
 ghost use Rattle.std.specs.FinMap.{get};
 ghost use Rattle.command_core.specs.Turns.{IsTurnLine, begun_by, lines_left, run_found};
 
+use crate::assembling::not_assembled;
 use crate::checkpoints::{Checkpoints, Kept};
 use crate::forking::{fork_number, fork_process};
 use crate::modes::Modes;
@@ -34,7 +35,7 @@ use machine_core::{Machine, SpaceError};
 use ovl_io::{Bytes, ProcessState, Turn};
 use report_text::{Answer, Code, Line};
 use round_robin::RoundRobin;
-use rv_asm::{AsmError, assemble};
+use rv_asm::assemble;
 use rv_execute::Regs;
 use script_text::Command;
 use std::alloc::{AllocError, Global};
@@ -109,21 +110,6 @@ fn not_made(error: SpaceError) -> Answer
     match error {
         SpaceError::Full(units, limit) => Answer::Full(units, limit),
         SpaceError::Memory => Answer::Memory,
-    }
-}
-
-/// What a text that isn't assembled answers.
-fn not_assembled(error: AsmError) -> Answer
-    ensures { result ≡ asm_answer error }
-{
-    match error {
-        AsmError::BadLine(k) => Answer::Refused(Code::AsmLine(k)),
-        AsmError::Twice(k) => Answer::Refused(Code::AsmTwice(k)),
-        AsmError::NoLabel(k) => Answer::Refused(Code::AsmNoLabel(k)),
-        AsmError::OutOfReach(k) => Answer::Refused(Code::AsmOutOfReach(k)),
-        AsmError::Empty => Answer::Refused(Code::AsmEmpty),
-        AsmError::TooMany => Answer::Refused(Code::AsmTooMany),
-        AsmError::Memory => Answer::Memory,
     }
 }
 
