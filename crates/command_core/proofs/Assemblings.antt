@@ -71,14 +71,14 @@ refused_taken text Memory = tt
 pub loads_text : (text file bytes : List ℕ) → assembled text ≡ Ok file → bytes ≡ file → load_row bytes ≡ asm_row text
 loads_text text file bytes is same = ap load_row same ∙ sym (ap asm_by is)
 
-module _ (text file : List ℕ) (is : assembled text ≡ Ok file) (of_text : IsFileOf text file) (s : State) where
+module _ (text file : List ℕ) (is : assembled text ≡ Ok file) (file_is : IsFileOf text file) (s : State) where
   refusals_are : (next : Option ℕ) → first_refusal (load_under next file (registry_of s)).refusals ≡ first_refusal (by_numbers_used next ∷ [])
-  refusals_are next = ap (λ (o : Option ElfError). first_refusal (option_map Elf o ∷ by_numbers_used next ∷ [])) of_text.loaded.taken
+  refusals_are next = ap (λ (o : Option ElfError). first_refusal (option_map Elf o ∷ by_numbers_used next ∷ [])) file_is.loaded.taken
 
   by_units : (p : ℕ) (full : Bool)
       → TakesText text (cond full (falls_short (load_under (Some p) file (registry_of s)) s) (accepts (load_under (Some p) file (registry_of s)) s)).answer
   by_units p true = tt
-  by_units p false = record { file = file; of_text = is; is_file = of_text; entry_is = of_text.loaded.entry }
+  by_units p false = record { file = file; of_text = is; is_file = file_is; entry_is = file_is.loaded.entry }
 
   by_next : (next : Option ℕ)
       → TakesText text (option_map_or (λ code. refuses code s) (first_refusal (by_numbers_used next ∷ [])) (within_units (load_under next file (registry_of s)) s)).answer
