@@ -27,6 +27,7 @@ fi
 cp "$here/../crates/overlay_app/data/a.elf" "$room/a.elf" || exit 2
 cp "$room/a.elf" "$room/w.elf"
 printf '\007' | dd of="$room/w.elf" bs=1 seek=68 conv=notrunc 2> "$room/dd" || exit 2
+printf 'again: addi x17, x0, 93\n jal x0, again\n' > "$room/s.s" || exit 2
 cd "$room" || exit 2
 
 cat > first <<'END'
@@ -36,6 +37,7 @@ checkpoint 1 k
 break 1 0x10080
 restore 1 k
 run 10
+asm s.s
 END
 
 # Each command that takes memory, often enough that what keeps its answers grows; and each other one.

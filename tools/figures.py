@@ -7,7 +7,7 @@ import sys
 
 import scripts
 import studies
-from studies import PRINTS, TURNS, Failed, checkpoints, command, counts, is_done, lookups, printable, processes, without_counts
+from studies import LOADS, PRINTS, TURNS, Failed, checkpoints, command, counts, is_done, lookups, printable, processes, without_counts
 
 ABOUT = """Figures of a script: what a run of it says and what its memory takes, command by command. Without a word that says what to
 make, --answers, --table and --held are made."""
@@ -23,7 +23,7 @@ elsewhere, since each `run` begins with the lowest process and a fresh quantum, 
 
 Status: 0 where all was made, 1 where something couldn't be, or where the report ends before the script, 2 where the words of
 the call aren't these."""
-MAKES = ("load", "exec", "fork")
+MAKES = LOADS + ("fork",)
 # beyond so many commands a chart has numbers below, and the commands beside
 MOST_NAMED = 20
 

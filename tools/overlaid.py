@@ -12,10 +12,12 @@ import os
 import elf
 import scripts
 import studies
-from studies import Failed, command, counts, is_done
+from studies import LOADS, Failed, command, counts, is_done
 
 PAGE, LINE, LINES = 4096, 64, 64
 STACK_PAGES, STACK_BOTTOM = 16, 2**38 - 16 * 4096
+# where the words of an assembled text begin
+TEXT_BEGIN = 0x10078
 FRAME_UNITS = 16
 # an overlay of so many lines becomes a page, where the program has it so and the process doesn't speculate
 SETTLED_AT = 32
@@ -67,8 +69,17 @@ def file_pages(path):
     for segment in segments:
         for page in range(segment.address // PAGE, (segment.address + segment.size - 1) // PAGE + 1):
             flags.setdefault(page, set()).update(segment.perms | ({4} if 2 in segment.perms else set()))
-    flags.update({page: {4, 2} for page in range(STACK_BOTTOM // PAGE, STACK_BOTTOM // PAGE + STACK_PAGES)})
-    return {page: "".join(name for bit, name in ((4, "r"), (2, "w"), (1, "x")) if bit in bits) for page, bits in flags.items()}
+    pages = {page: "".join(name for bit, name in ((4, "r"), (2, "w"), (1, "x")) if bit in bits) for page, bits in flags.items()}
+    return {**pages, **stack_pages()}
+
+
+def stack_pages():
+    return {page: "rw" for page in range(STACK_BOTTOM // PAGE, STACK_BOTTOM // PAGE + STACK_PAGES)}
+
+
+def text_pages(count):
+    """The permissions of each page of a process that was assembled, which are so many with the stack's."""
+    return {**{TEXT_BEGIN // PAGE + page: "rwx" for page in range(count - STACK_PAGES)}, **stack_pages()}
 
 
 class Layouts:
@@ -89,6 +100,8 @@ class Layouts:
         process = str(scripts.number_in(rest[0])) if rest and scripts.number_in(rest[0]) is not None else None
         if first in ("load", "exec"):
             self.processes[said[1]] = self.of_file(rest[0])
+        elif first == "asm":
+            self.processes[said[1]] = text_pages(int(said[3]))
         elif first == "fork":
             self.processes[said[2]] = dict(self.processes[said[1]])
         elif first == "checkpoint":
@@ -163,7 +176,7 @@ class State:
         for line, answer in zip(done, answers):
             layouts.follow(line, answer)
         self.spaces = layouts.spaces(listed)
-        self.files = [line.words[1] for line, answer in zip(done, answers) if line.words[0] in ("load", "exec") and is_done(answer)]
+        self.loads_done = [(line, answer) for line, answer in zip(done, answers) if line.words[0] in LOADS and is_done(answer)]
         self.listed = listed
         self.words = [word for word in study.words if not word.startswith("--frames")] + [f"--frames={self.frames()}"]
         names = {word for line in done for word in line.words}
@@ -176,7 +189,7 @@ class State:
         processes that stand for checkpoints, and those of the checkpoints that processes are taken back to."""
         most = max((listed_pages(listed) for _, listed in self.study.told()[:self.count]), default=0)
         stand_ins = [space for space in self.spaces if space.is_checkpoint]
-        loaded = max((len(file_pages(os.path.join(self.study.folder, name))) for name in self.files[:1]), default=0)
+        loaded = max((int(answer[0].split()[3]) for _, answer in self.loads_done[:1]), default=0)
         there = sum(len(space.pages) for space in self.spaces)
         return min(MOST_FRAMES, 1 + 2 * (most + there + len(stand_ins) * loaded))
 
@@ -211,7 +224,8 @@ class State:
     def name_stand_ins(self):
         """Gives each checkpoint a process to be asked in its place, and checks that the state is the one that is asked for."""
         kept = [space for space in self.spaces if space.is_checkpoint]
-        loads = [f"load {self.files[0]}"] * len(kept) if kept else []
+        line = self.loads_done[0][0] if kept else None
+        loads = [f"{'asm' if line.words[0] == 'asm' else 'load'} {line.words[1]}"] * len(kept) if kept else []
         if not kept and len(self.commands) == self.count and self.spaces:
             return loads
         answers = self.ask(["stats", "list"] + loads)

@@ -6,7 +6,7 @@ import check_script
 import scripts
 import studies
 import symbols
-from studies import Failed, command, printable, processes
+from studies import LOADS, Failed, command, printable, processes
 
 ABOUT = """A prompt over the commands of a script, of which each is answered at once: the program runs all commands so far once more, which gives the
 same report. Names stand for addresses and registers as in tools/named. With SCRIPT its commands are done first. A dialogue may come
@@ -341,7 +341,7 @@ class Session:
         if line.form() is None:
             _, what = check_script.outside(line)
             raise Failed(printable(what))
-        if len(line.words) > 1 and line.words[0] not in ("load", "exec", "run", "forget"):
+        if len(line.words) > 1 and line.words[0] not in LOADS + ("run", "forget"):
             self.last_process = str(scripts.number_in(line.words[1]))
         self.add([" ".join(line.words)])
 
@@ -360,7 +360,7 @@ def completions(session, before, text):
     if not before.split():
         return sorted(set(OWN_WORDS) | {first for first, _ in scripts.FORMS})
     first = before.split()[0]
-    if first in ("load", "exec", "save"):
+    if first in LOADS + ("save",):
         folder, name = os.path.split(text)
         there = os.path.join(session.folder, folder)
         return [os.path.join(folder, entry) for entry in (sorted(os.listdir(there)) if os.path.isdir(there) else [])]

@@ -134,6 +134,9 @@ class Owners:
         process = str(scripts.number_in(rest[0])) if rest and scripts.number_in(rest[0]) is not None else None
         if first in ("load", "exec"):
             self.processes[said[1]] = rest[0]
+        elif first == "asm":
+            # a text's file has no symbols
+            self.processes.pop(said[1], None)
         elif first == "fork":
             self.processes[said[2]] = self.processes.get(said[1])
         elif first == "checkpoint":

@@ -6,7 +6,7 @@ import figures
 import overlaid
 import scripts
 import studies
-from studies import PRINTS, Failed, counts, is_done, lookups, printable
+from studies import LOADS, PRINTS, Failed, counts, is_done, lookups, printable
 
 ABOUT = """A script and its run as one HTML page that needs nothing else: the script with its report beside it, and for each command the units
 over time, the pages of each process and each checkpoint as rows of 64 lines, what of them the command changed, and the frames with
@@ -84,7 +84,7 @@ def touched(study, k):
     first, rest, said = line.words[0], line.words[1:], answer[0].split()
     if first == "run":
         return None
-    if first in ("load", "exec"):
+    if first in LOADS:
         return {f"process {said[1]}"}
     if first == "fork":
         return {f"process {said[2]}"}

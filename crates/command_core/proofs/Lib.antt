@@ -10,6 +10,7 @@ mod Stretches
 pub mod Stretching
 pub mod Standing
 pub mod Loadings
+pub mod Assemblings
 pub mod Dropping
 pub mod Copies
 pub mod Forkings

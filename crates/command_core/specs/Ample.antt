@@ -10,6 +10,7 @@ use Rattle.report_text.specs.declared.answer.Answer.{Answer}
 use Rattle.report_text.specs.declared.answer.Answer.TheVariants.{Done, Loaded, Forked, Saved, Refused, Full, Memory}
 use Rattle.report_text.specs.declared.answer.Code.{Code}
 use Rattle.report_text.specs.declared.answer.Code.TheVariants.{NoCheckpoint, NoProcess, NotSpeculating}
+use Rattle.rv_asm.specs.Assembly.{assembled}
 use Rattle.script_text.specs.declared.command.Command.{Command}
 use Rattle.script_text.specs.declared.command.Command.TheVariants as command
 use Rattle.command_core.specs.declared.process_changes.ProcessChange.{ProcessChange}
@@ -18,8 +19,8 @@ use Rattle.command_core.specs.State.{Checkpoint, Registry, State, registry_of}
 use Rattle.command_core.specs.Sessions.{InSession}
 use Rattle.command_core.specs.Rows.{Row, accepts, change_by, falls_short, first_refusal, row_is_full, ledger_by, plain_row, refused_row, refuses}
 use Rattle.command_core.specs.Giving.{ComesTo, is_full_answer}
-use Rattle.command_core.specs.CommandCases.{change_itself}
-use Rattle.command_core.specs.Changes.{change_row, drop_row, load_row, on_process}
+use Rattle.command_core.specs.CommandCases.{asm_itself, change_itself}
+use Rattle.command_core.specs.Changes.{asm_row, change_row, drop_row, load_row, on_process}
 use Rattle.command_core.specs.Copies.{fork_row}
 use Rattle.command_core.specs.Debugging.{break_row, poke_row, unbreak_row}
 use Rattle.command_core.specs.Checkpoints.{checkpoint_named, checkpoint_row, forget_row, on_checkpoint, restore_row}
@@ -74,3 +75,6 @@ amply_changed file c old new answer gives = amply_done (change_row file c) old n
 
 pub amply_loaded : (file : List ℕ) (old new : InSession) (answer : Answer) → GivesAs (load_row file) old answer new → IsAmplyDone (load_row file) old answer
 amply_loaded file old new answer gives = amply_done (load_row file) old new (λ registry. refl) answer gives
+
+pub amply_assembled : (text : List ℕ) (old new : InSession) (answer : Answer) → GivesAs (asm_row text) old answer new → IsAmplyDone (asm_row text) old answer
+amply_assembled text old new answer gives = amply_done (asm_row text) old new (asm_itself (assembled text)) answer gives

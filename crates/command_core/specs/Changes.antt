@@ -1,16 +1,20 @@
-use Rattle.std.specs.Prelude.{ℕ, Option, true, false, List, [], ◌∷◌, Some, None}
+use Rattle.std.specs.Prelude.{◌≡◌, ℕ, Option, true, false, List, [], ◌∷◌, Some, None, Result, Ok, Err}
 use Rattle.std.specs.Option.{option_map, option_map_or}
 use Rattle.std.specs.FinMap.{get, remove}
 use Rattle.elf_loader.specs.Accepted.{file_refusal}
 use Rattle.elf_loader.specs.Fields.{entry_address}
+use Rattle.rv_asm.specs.declared.error.AsmError.{AsmError}
+use Rattle.rv_asm.specs.declared.error.AsmError.TheVariants as asm
+use Rattle.rv_asm.specs.Assembly.{assembled, IsFileOf}
 use Rattle.ledger.specs.Events as event
 use Rattle.machine_core.specs.Process.{Process}
 use Rattle.machine_core.specs.Load.{load_pages, loaded_process, page_count}
 use Rattle.overlay_memory.specs.declared.error.SpaceError.{SpaceError}
 use Rattle.overlay_memory.specs.declared.error.SpaceError.TheVariants as error
 use Rattle.report_text.specs.declared.answer.Answer.{Answer}
-use Rattle.report_text.specs.declared.answer.Answer.TheVariants.{Loaded, Full, Memory}
-use Rattle.report_text.specs.declared.answer.Code.TheVariants.{NoProcess, Elf}
+use Rattle.report_text.specs.declared.answer.Answer.TheVariants.{Loaded, Refused, Full, Memory}
+use Rattle.report_text.specs.declared.answer.Code.{Code}
+use Rattle.report_text.specs.declared.answer.Code.TheVariants.{NoProcess, Elf, AsmLine, AsmTwice, AsmNoLabel, AsmOutOfReach, AsmEmpty, AsmTooMany}
 use Rattle.report_text.specs.Answers.{HasAnswerLine}
 use Rattle.script_text.specs.declared.command.Command.{Command}
 use Rattle.script_text.specs.declared.command.Command.TheVariants as command
@@ -38,6 +42,27 @@ load_under next file registry =
 abbrev pub load_row : List ℕ → Registry → Row
 load_row file registry = load_under (next_number registry) file registry
 
+-- the code of what an assembler's text is refused for; want of memory is none of its refusals
+abbrev pub asm_code : AsmError → Option Code
+asm_code (asm.BadLine k) = Some (AsmLine k)
+asm_code (asm.Twice k) = Some (AsmTwice k)
+asm_code (asm.NoLabel k) = Some (AsmNoLabel k)
+asm_code (asm.OutOfReach k) = Some (AsmOutOfReach k)
+asm_code asm.Empty = Some AsmEmpty
+asm_code asm.TooMany = Some AsmTooMany
+asm_code asm.Memory = None
+
+abbrev pub asm_refused : AsmError → Registry → Row
+asm_refused e registry = record (plain_row false None (asm_code e ∷ []) event.Other registry) { memory = TakesFirst }
+
+-- `asm`: the refusal of a text; or its file is loaded
+abbrev pub asm_by : Result (List ℕ) AsmError → Registry → Row
+asm_by (Ok file) = load_row file
+asm_by (Err e) = asm_refused e
+
+abbrev pub asm_row : List ℕ → Registry → Row
+asm_row text = asm_by (assembled text)
+
 -- `drop`: the process goes, with its pages, their translations and its breakpoints
 abbrev pub drop_row : ℕ → Process → Registry → Row
 drop_row p process registry =
@@ -48,6 +73,7 @@ drop_row p process registry =
 -- turns or print have no row of their own here: as changes they do nothing.
 abbrev pub change_row : List ℕ → Command → Registry → Row
 change_row file (command.Load name) = load_row file
+change_row file (command.Asm name) = asm_row file
 change_row file (command.Fork p) = on_process p (fork_row p)
 change_row file (command.Checkpoint p name) = on_process p (checkpoint_row p name)
 change_row file (command.Restore p name) = on_process p (restore_row p name)
@@ -78,6 +104,33 @@ change_row file (command.Disasm p address words) = still_row
 abbrev pub answer_of : SpaceError → Answer
 answer_of (error.Full units limit) = Full units limit
 answer_of error.Memory = Memory
+
+-- what is answered where a text isn't assembled
+abbrev pub asm_answer : AsmError → Answer
+asm_answer (asm.BadLine k) = Refused (AsmLine k)
+asm_answer (asm.Twice k) = Refused (AsmTwice k)
+asm_answer (asm.NoLabel k) = Refused (AsmNoLabel k)
+asm_answer (asm.OutOfReach k) = Refused (AsmOutOfReach k)
+asm_answer asm.Empty = Refused AsmEmpty
+asm_answer asm.TooMany = Refused AsmTooMany
+asm_answer asm.Memory = Memory
+
+-- what is known of the file of a text whose process was loaded: it is the text's, and the entry is that of its words
+pub record IsLoadedText (text : List ℕ) (entry : ℕ) : Type 0 where
+  pub file : List ℕ
+  pub of_text : assembled text ≡ Ok file
+  pub is_file : IsFileOf text file
+  pub entry_is : entry ≡ 0x10078
+
+-- the file of a text is never refused
+abbrev pub IsNoFileCode : Code → Type 0
+IsNoFileCode (Elf e) = ⊥
+IsNoFileCode code = Unit {0}
+
+abbrev pub TakesText : List ℕ → Answer → Type 0
+TakesText text (Loaded p pages entry) = IsLoadedText text entry
+TakesText text (Refused code) = IsNoFileCode code
+TakesText text answer = Unit {0}
 
 -- an answer that has a line, or want of memory
 abbrev pub CanBeTold : Answer → Type 0

@@ -1,8 +1,10 @@
-use Rattle.std.specs.Prelude.{◌≡◌, ℕ, Bool, false, List, [], Option, Some, None, refl}
+use Rattle.std.specs.Prelude.{◌≡◌, ℕ, Bool, false, List, [], Option, Some, None, Result, Ok, Err, refl}
 use Rattle.std.specs.Option.{option_map_or}
 use Rattle.std.specs.FinMap.{get}
 use Rattle.ledger.specs.Events as event
 use Rattle.machine_core.specs.Process.{Process, Whole}
+use Rattle.rv_asm.specs.declared.error.AsmError.{AsmError}
+use Rattle.rv_asm.specs.Assembly.{assembled}
 use Rattle.report_text.specs.declared.answer.Code.TheVariants.{NoCheckpoint, NoProcess, NotSpeculating}
 use Rattle.script_text.specs.declared.command.Command.{Command}
 use Rattle.script_text.specs.declared.command.Command.TheVariants as command
@@ -16,7 +18,7 @@ use Rattle.command_core.specs.Copies.{fork_row}
 use Rattle.command_core.specs.ProcessChanges.{after_discard, leaves, process_row}
 use Rattle.command_core.specs.Checkpoints.{checkpoint_named, checkpoint_row, forget_row, on_checkpoint, restore_row}
 use Rattle.command_core.specs.Debugging.{break_row, poke_row, unbreak_row}
-use Rattle.command_core.specs.Changes.{change_row, drop_row, on_process}
+use Rattle.command_core.specs.Changes.{asm_by, change_row, drop_row, on_process}
 use Rattle.command_core.specs.Commands.{Performed, Rules, change_told, performed_by, stats_done}
 
 -- The commands case by case: those that take turns or print, each for itself, and all others as changes, each by its row. What holds of
@@ -26,6 +28,7 @@ use Rattle.command_core.specs.Commands.{Performed, Rules, change_told, performed
 abbrev pub ledger_done : Command → Option (State → Performed State)
 ledger_done command.Stats = Some stats_done
 ledger_done (command.Load name) = None
+ledger_done (command.Asm name) = None
 ledger_done (command.Exec name turns) = None
 ledger_done (command.Run turns) = None
 ledger_done (command.Step p turns) = None
@@ -73,6 +76,7 @@ goes_by x y modes file (command.Regs p) = ByRegs p
 goes_by x y modes file (command.Dump p address count) = ByDump p address count
 goes_by x y modes file (command.Disasm p address words) = ByDisasm p address words
 goes_by x y modes file (command.Load name) = ByChange (command.Load name) (λ state. refl) (λ state. refl) refl
+goes_by x y modes file (command.Asm name) = ByChange (command.Asm name) (λ state. refl) (λ state. refl) refl
 goes_by x y modes file (command.Fork p) = ByChange (command.Fork p) (λ state. refl) (λ state. refl) refl
 goes_by x y modes file (command.Checkpoint p name) = ByChange (command.Checkpoint p name) (λ state. refl) (λ state. refl) refl
 goes_by x y modes file (command.Restore p name) = ByChange (command.Restore p name) (λ state. refl) (λ state. refl) refl
@@ -122,6 +126,10 @@ overlay_itself p (Map address n perms) process registry = refl
 overlay_itself p (Unmap address n) process registry = refl
 overlay_itself p (Set register value) process registry = refl
 
+pub asm_itself : (r : Result (List ℕ) AsmError) (registry : Registry) → is_full_answer (asm_by r registry).answer ≡ false
+asm_itself (Ok file) registry = refl
+asm_itself (Err e) registry = refl
+
 pub change_itself : (file : List ℕ) (c : Command) (registry : Registry) → is_full_answer (change_row file c registry).answer ≡ false
 change_itself file (command.Fork p) registry = on_process_itself p (fork_row p) (λ process registry. refl) registry
 change_itself file (command.Checkpoint p name) registry = on_process_itself p (checkpoint_row p name) (λ process registry. refl) registry
@@ -139,6 +147,7 @@ change_itself file (command.Map p address n perms) registry = on_process_itself 
 change_itself file (command.Unmap p address n) registry = on_process_itself p (process_row p (Unmap address n)) (overlay_itself p (Unmap address n)) registry
 change_itself file (command.Set p register value) registry = on_process_itself p (process_row p (Set register value)) (overlay_itself p (Set register value)) registry
 change_itself file (command.Load name) registry = refl
+change_itself file (command.Asm name) registry = asm_itself (assembled file) registry
 change_itself file (command.Forget name) registry = on_checkpoint_itself name registry
 change_itself file command.Compact registry = refl
 change_itself file (command.Exec name turns) registry = refl

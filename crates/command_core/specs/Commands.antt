@@ -7,7 +7,7 @@ use Rattle.rv_execute.specs.Calls.{word_at}
 use Rattle.rv_execute.specs.Registers.{Registers, register}
 use Rattle.machine_core.specs.Process.{Process, is_speculating, runs}
 use Rattle.script_text.specs.declared.command.Command.{Command}
-use Rattle.script_text.specs.declared.command.Command.TheVariants.{Exec, Load, Run, Step}
+use Rattle.script_text.specs.declared.command.Command.TheVariants.{Exec, Load, Asm, Run, Step}
 use Rattle.script_text.specs.declared.command.Command.TheVariants as command
 use Rattle.report_text.specs.declared.answer.Answer.{Answer}
 use Rattle.report_text.specs.declared.answer.Answer.TheVariants.{Loaded}
@@ -22,7 +22,7 @@ use Rattle.script_text.specs.Given.{asks}
 use Rattle.command_core.specs.State.{Checkpoint, Registry, State, registry_of, with_wholes}
 use Rattle.command_core.specs.Sessions.{InSession}
 use Rattle.command_core.specs.Rows.{Changed, Row, change_by, may_want_memory, refuses}
-use Rattle.command_core.specs.Changes.{change_row, load_row}
+use Rattle.command_core.specs.Changes.{asm_row, change_row, load_row}
 use Rattle.command_core.specs.Looks.{counts_of}
 use Rattle.command_core.specs.Turns.{InRun, Progress, begun_alone, by_turns, left_of, ran_from, ran_text}
 
@@ -194,6 +194,9 @@ module _ {S : Type 0} (by : Rules S) where
   abbrev pub load_told : List ℕ → S → Performed S
   load_told file state = row_told (load_row file (by.registry state)) state
 
+  abbrev pub asm_told : List ℕ → S → Performed S
+  asm_told text state = row_told (asm_row text (by.registry state)) state
+
   abbrev pub change_told : List ℕ → Command → S → Performed S
   change_told file command state = row_told (change_row file command (by.registry state)) state
 
@@ -257,6 +260,7 @@ module _ {S : Type 0} (by : Rules S) where
   performed_by modes file (command.Dump p address count) = dump_done p address count
   performed_by modes file (command.Disasm p address words) = disasm_done modes.extension p address words
   performed_by modes file (Load name) = change_told file (Load name)
+  performed_by modes file (Asm name) = change_told file (Asm name)
   performed_by modes file (command.Fork p) = change_told file (command.Fork p)
   performed_by modes file (command.Checkpoint p name) = change_told file (command.Checkpoint p name)
   performed_by modes file (command.Restore p name) = change_told file (command.Restore p name)

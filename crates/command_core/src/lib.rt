@@ -5,6 +5,7 @@
 //!
 //! - `modes`: what is fixed for a whole run
 //! - `session`: loads, changes, and what is looked up
+//! - `assembling`: why a text isn't assembled
 //! - `forking`: a process under a second number
 //! - `saving`: checkpoints of processes, made and put back
 //! - `checkpoints`: what is kept of them, by name
@@ -16,6 +17,7 @@
 //! - `taking`: its turns, taken
 #![tactic(auto)]
 
+mod assembling;
 mod checkpoints;
 mod forking;
 mod mapping;

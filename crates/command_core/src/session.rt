@@ -1,7 +1,7 @@
 ghost use Rattle.std.specs.Prelude.{◌≡◌, ◌==◌, ◌+◌, ◌≤◌, ◌<◌, [], None, true, false, length, IfOk, IfSome, OnOk};
 ghost use Rattle.script_text.specs.Given.{IsGiven, asks};
 ghost use Rattle.report_text.specs.Answers.{IsCheckpointName};
-ghost use Rattle.sizes.specs.declared.TheConstants.{ADDRESS_END, LAST_SPACE, MOST_FRAMES, PAGE_BYTES};
+ghost use Rattle.sizes.specs.declared.TheConstants.{ADDRESS_END, LAST_SPACE, MOST_FILE_BYTES, MOST_FRAMES, PAGE_BYTES};
 ghost use Rattle.command_core.specs.State.{fresh, registry_of, State, extended};
 ghost use Rattle.command_core.specs.Sessions.{AreSettledCounts, KeepsRest, fresh_session, extended_session};
 ghost use Rattle.command_core.specs.Giving.{GivesChange, WantKeeps};
@@ -10,7 +10,7 @@ ghost use Rattle.command_core.specs.Copies.{fork_row};
 ghost use Rattle.command_core.specs.ProcessChanges.{process_row};
 ghost use Rattle.command_core.specs.Debugging.{break_row, poke_row, unbreak_row};
 ghost use Rattle.command_core.specs.Checkpoints.{checkpoint_row, forget_row, on_checkpoint, restore_row};
-ghost use Rattle.command_core.specs.Changes.{CanBeTold, answer_of, change_row, drop_row, load_row, on_process};
+ghost use Rattle.command_core.specs.Changes.{CanBeTold, TakesText, answer_of, asm_row, change_row, drop_row, load_row, on_process};
 ghost use Rattle.command_core.specs.Commands.{RunsLoaded};
 ghost use Rattle.command_core.specs.Looks.{BeginsStep, CanRead, LooksAt, LooksAtCheckpoint, NextProcess, ReadsBytes, counts_of, look_of, looked_at};
 ghost use Rattle.command_core.specs.Ample.{IsAmplyDone};
@@ -18,6 +18,7 @@ ghost use Rattle.command_core.specs.Standing.{SessionAnswersAs, GivesAs, HoldsFo
 ghost use Rattle.std.specs.FinMap.{get};
 ghost use Rattle.command_core.specs.Turns.{IsTurnLine, begun_by, lines_left, run_found};
 
+use crate::assembling::not_assembled;
 use crate::checkpoints::{Checkpoints, Kept};
 use crate::forking::{fork_number, fork_process};
 use crate::modes::Modes;
@@ -34,6 +35,7 @@ use machine_core::{Machine, SpaceError};
 use ovl_io::{Bytes, ProcessState, Turn};
 use report_text::{Answer, Code, Line};
 use round_robin::RoundRobin;
+use rv_asm::assemble;
 use rv_execute::Regs;
 use script_text::Command;
 use std::alloc::{AllocError, Global};
@@ -195,6 +197,25 @@ impl Session {
                 Answer::Loaded(p, pages, image.entry())
             }
             Err(error) => not_made(error),
+        }
+    }
+
+    /// Assembles a text of at most 16 MiB, and makes a process of its file, under the next number: `Loaded`, or why not. The file itself is never
+    /// refused. `Full` as for a load. After want of memory everything is as before.
+    pub fn assemble(&mut self, text: &[u8]) -> Answer
+        requires { length text.now ≤ MOST_FILE_BYTES }
+        ensures gives { GivesChange (asm_row text.now (registry_of self.old.state)) self.old.state
+            result self.new.state }
+        ensures stands { GivesAs (asm_row text.now) self.old result self.new }
+        ensures taken { TakesText text.now result }
+        ensures ample { IsAmplyDone (asm_row text.now) self.old result }
+        ensures want { WantKeeps self.old result self.new }
+        ensures told { CanBeTold result }
+        ensures modes { self.new.modes ≡ self.old.modes }
+    {
+        match assemble(self.alloc, text) {
+            Ok(file) => self.load(file.as_slice()),
+            Err(error) => not_assembled(error),
         }
     }
 
@@ -453,6 +474,7 @@ impl Session {
             Command::Unbreak(p, address) => self.remove_breakpoint(*p, *address),
             Command::Exec(_, _)
             | Command::Load(_)
+            | Command::Asm(_)
             | Command::Run(_)
             | Command::Step(_, _)
             | Command::Regs(_)

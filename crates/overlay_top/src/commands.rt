@@ -2,10 +2,11 @@ ghost use Rattle.std.specs.Prelude.{◌≡◌, ◌<◌, ◌≤◌, [], None, len
 ghost use Rattle.std.specs.FinMap.{entries};
 ghost use Rattle.script_text.specs.Given.{IsGiven, asks};
 ghost use Rattle.script_text.specs.declared.TheConstants.{MOST_WORDS};
+ghost use Rattle.sizes.specs.declared.TheConstants.{MOST_FILE_BYTES};
 ghost use Rattle.report_text.specs.Answers.{HasAnswerLine, answer_text};
 ghost use Rattle.command_core.specs.Changes.{CanBeTold};
 ghost use Rattle.command_core.specs.State.{registry_of};
-ghost use Rattle.command_core.specs.Commands.{RunsLoaded, change_told, checkpoints_text, disasm_done, dump_done, exec_done, exec_turns, list_text, load_told, performed_in, processes_text, registers_text, regs_done, rules, run_done, stats_text, step_done, takes_left, tells_exec, register_value};
+ghost use Rattle.command_core.specs.Commands.{RunsLoaded, asm_told, change_told, checkpoints_text, disasm_done, dump_done, exec_done, exec_turns, list_text, load_told, performed_in, processes_text, registers_text, regs_done, rules, run_done, stats_text, step_done, takes_left, tells_exec, register_value};
 ghost use Rattle.overlay_top.specs.Sending.{SendsText};
 ghost use Rattle.overlay_top.specs.Printing.{view_text};
 ghost use Rattle.overlay_top.specs.Running.{DoesCommand, TakesOn, TellsAnswer};
@@ -74,6 +75,17 @@ fn load<K: Sink>(session: &mut Session, file: &[u8], report: &mut Report<K>) -> 
     ensures same { report.new.sink.ghost_name ≡ report.old.sink.ghost_name }
 {
     let answer = session.load(file);
+    tell(&answer, report)
+}
+
+/// Assembles a text, and makes a process of its file.
+fn asm<K: Sink>(session: &mut Session, text: &[u8], report: &mut Report<K>) -> Result<(), Halt>
+    requires { length text.now ≤ MOST_FILE_BYTES }
+    ensures does { DoesCommand K.Sink report.old.sink.now report.new.sink.now
+        (asm_told rules text.now session.old.state) session.old session.new result }
+    ensures same { report.new.sink.ghost_name ≡ report.old.sink.ghost_name }
+{
+    let answer = session.assemble(text);
     tell(&answer, report)
 }
 
@@ -379,7 +391,8 @@ pub(crate) fn do_command<K: Sink>(
     file: &[u8],
     report: &mut Report<K>,
 ) -> Result<(), Halt>
-    requires { IsGiven command.now }
+    requires given { IsGiven command.now }
+    requires small { length file.now ≤ MOST_FILE_BYTES }
     ensures does { DoesCommand K.Sink report.old.sink.now report.new.sink.now
         (performed_in session.old file.now command.now) session.old session.new result }
     ensures same { report.new.sink.ghost_name ≡ report.old.sink.ghost_name }
@@ -387,6 +400,7 @@ pub(crate) fn do_command<K: Sink>(
     let sent = match command {
         Command::Exec(_, turns) => return exec(session, file, *turns, report),
         Command::Load(_) => return load(session, file, report),
+        Command::Asm(_) => return asm(session, file, report),
         Command::Run(turns) => run_all(session, *turns, report),
         Command::Step(p, turns) => step(session, *p, *turns, report),
         Command::List => list(session, report),

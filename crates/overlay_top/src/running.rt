@@ -1,6 +1,7 @@
-ghost use Rattle.std.specs.Prelude.{◌≡◌, ℕ, List, Err, [], ◌∷◌, map, OnOk};
+ghost use Rattle.std.specs.Prelude.{◌≡◌, ◌≤◌, ℕ, List, Err, [], ◌∷◌, map, vec_len, IfOk, OnOk};
 ghost use Rattle.std.specs.List.{All};
 ghost use Rattle.ovl_io.specs.Outside.{AsksFor, HasName};
+ghost use Rattle.sizes.specs.declared.TheConstants.{MOST_FILE_BYTES};
 ghost use Rattle.script_text.specs.Given.{IsGiven, asks};
 ghost use Rattle.command_core.specs.Commands.{asked_by, file_asked};
 ghost use Rattle.overlay_top.specs.Outcome.{command_done, named, run_all};
@@ -39,6 +40,7 @@ fn fetch<H: Shelf>(alloc: Global, name: &[u8], shelf: &mut H) -> Result<Vec<u8>,
     ensures refused { FetchedFor H.Shelf shelf.new name.now result }
     ensures kept { H.tells → (other : List ℕ) → H.files shelf.new other ≡ H.files shelf.old other }
     ensures fetched { H.fetched shelf.old name.now shelf.new }
+    ensures small { IfOk result (λ file. vec_len file ≤ MOST_FILE_BYTES) }
 {
     match shelf.fetch(alloc, name) {
         Ok(file) => Ok(file),
@@ -78,6 +80,7 @@ fn fetch_for<H: Shelf>(alloc: Global, command: &Command, shelf: &mut H) -> Resul
     ensures failed { FetchesFor H.Shelf shelf.new (asks command.now) result }
     ensures kept { H.tells → (other : List ℕ) → H.files shelf.new other ≡ H.files shelf.old other }
     ensures fetched { AsksFor H.fetched (named (asks command.now ∷ [])) shelf.old shelf.new }
+    ensures small { IfOk result (λ file. vec_len file ≤ MOST_FILE_BYTES) }
 {
     match command.file() {
         Some(name) => fetch(alloc, name.as_slice(), shelf),

@@ -7,7 +7,7 @@ use Rattle.report_text.specs.declared.answer.Code.{Code}
 use Rattle.report_text.specs.declared.answer.Code.TheVariants as code
 use Rattle.report_text.specs.declared.answer.Stop.{Stop}
 use Rattle.report_text.specs.declared.answer.Stop.TheVariants as stop
-use Rattle.report_text.specs.Digits.{address_text}
+use Rattle.report_text.specs.Digits.{address_text, in_decimal}
 
 -- Printed names.
 
@@ -38,7 +38,7 @@ elf_text elf.NothingToLoad = codes "E14 nothing-to-load"
 elf_text elf.TooManyPages = codes "E15 too-many-pages"
 elf_text elf.Memory = []
 
--- the code and the name of a refusal, and the address of one that has it
+-- the code and the name of a refusal, and the address or the line of one that has it
 abbrev pub code_text : Code → List ℕ
 code_text code.NoProcess = codes "C1 no-process"
 code_text code.Ended = codes "C2 ended"
@@ -52,6 +52,12 @@ code_text code.NumbersUsed = codes "C9 numbers-used"
 code_text code.Outside = codes "C10 outside"
 code_text (code.Forbidden at) = codes "C11 forbidden " ++ address_text at
 code_text (code.Elf error) = elf_text error
+code_text (code.AsmLine k) = codes "A1 bad-line " ++ in_decimal k
+code_text (code.AsmTwice k) = codes "A2 twice " ++ in_decimal k
+code_text (code.AsmNoLabel k) = codes "A3 no-label " ++ in_decimal k
+code_text (code.AsmOutOfReach k) = codes "A4 out-of-reach " ++ in_decimal k
+code_text code.AsmEmpty = codes "A5 empty"
+code_text code.AsmTooMany = codes "A6 too-many"
 
 -- why turns ended
 abbrev pub stop_word : Stop → List ℕ

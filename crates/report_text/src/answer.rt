@@ -28,6 +28,18 @@ pub enum Code {
     Forbidden(u64),
     /// The file isn't taken. Want of memory is no refusal, and has no line.
     Elf(ElfError),
+    /// A line of an assembler's text is outside the grammar. Here and below: the first such line, from 1.
+    AsmLine(u32),
+    /// The label of a line stands before it.
+    AsmTwice(u32),
+    /// A line names a label that isn't there.
+    AsmNoLabel(u32),
+    /// The label that a line names is outside its immediate's range.
+    AsmOutOfReach(u32),
+    /// The text has no item.
+    AsmEmpty,
+    /// It has too many.
+    AsmTooMany,
 }
 
 /// What came of a command that changes the machine.

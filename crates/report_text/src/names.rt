@@ -1,5 +1,6 @@
 ghost use Rattle.std.specs.Prelude.{◌≡◌, ◌+◌, ◌==◌, ◌||◌, ◌≤◌, ◌++◌, [], codes, length, IsTrue, if◌then◌else◌};
 ghost use Rattle.arrayvec.specs.ArrayVec.{array_vec_len};
+ghost use Rattle.report_text.specs.Digits.{in_decimal};
 ghost use Rattle.report_text.specs.Names.{kind_text, elf_text, code_text, stop_word};
 ghost use Rattle.report_text.specs.Texts.{bare_state_text, state_text, pages_text};
 ghost use Rattle.report_text.specs.Answers.{HasElfLine, HasCodeLine};
@@ -49,7 +50,18 @@ fn elf_text(error: ElfError) -> &'static [u8]
     }
 }
 
-/// The code and the name of a refusal, and the address of one that has it.
+/// A name, and the number of a line behind it.
+fn push_numbered(line: &mut Line, name: &[u8], k: u32)
+    requires short { length name.now ≤ 32 }
+    requires room { array_vec_len line.old + 64 ≤ LINE_ROOM }
+    ensures text { line.new.items ≡ line.old.items ++ (name.now ++ in_decimal k) }
+    ensures len { array_vec_len line.new ≤ array_vec_len line.old + 64 }
+{
+    push_text(line, name);
+    push_decimal(line, u64::from(k));
+}
+
+/// The code and the name of a refusal, and the address or the line of one that has it.
 pub(crate) fn push_code(line: &mut Line, code: Code)
     requires has { HasCodeLine code }
     requires room { array_vec_len line.old + 64 ≤ LINE_ROOM }
@@ -78,6 +90,12 @@ pub(crate) fn push_code(line: &mut Line, code: Code)
             push_address(line, address);
         }
         Code::Elf(error) => push_text(line, elf_text(error)),
+        Code::AsmLine(k) => push_numbered(line, b"A1 bad-line ", k),
+        Code::AsmTwice(k) => push_numbered(line, b"A2 twice ", k),
+        Code::AsmNoLabel(k) => push_numbered(line, b"A3 no-label ", k),
+        Code::AsmOutOfReach(k) => push_numbered(line, b"A4 out-of-reach ", k),
+        Code::AsmEmpty => push_text(line, b"A5 empty"),
+        Code::AsmTooMany => push_text(line, b"A6 too-many"),
     }
 }
 

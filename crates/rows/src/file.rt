@@ -1,4 +1,4 @@
-use crate::numbers::{byte, bytes, number, numbers, size, words};
+use crate::numbers::{byte, bytes, number, numbers, size, unescaped, words};
 use anyhow::{Context, Result, bail};
 use std::alloc::{AllocError, Global};
 
@@ -59,6 +59,9 @@ fn piece_of(
         "bytes" => bytes(alloc, rest)?,
         "fill" => fill(alloc, rest)?,
         "copy" => copy(files, shared, rest)?,
+        "line" => lines(alloc, 1, rest)?,
+        "lines" => counted_lines(alloc, rest)?,
+        "text" => unescaped(alloc, rest)?,
         _ => return Ok(None),
     }))
 }
@@ -91,6 +94,24 @@ fn set(alloc: Global, rest: &str, file: &mut Vec<u8>) -> Result<()> {
 fn fill(alloc: Global, rest: &str) -> Result<Vec<u8>> {
     let (count, digits) = rest.split_once(' ').context("fill has a count and a byte")?;
     Ok(Vec::from_elem(alloc, byte(digits)?, size(count)?)?)
+}
+
+/// `COUNT TEXT`: that line so many times.
+fn counted_lines(alloc: Global, rest: &str) -> Result<Vec<u8>> {
+    let (count, text) = rest
+        .split_once(' ')
+        .context("lines have a count and a text")?;
+    lines(alloc, number(count)?, text)
+}
+
+/// So many lines of a text, each with its end.
+fn lines(alloc: Global, count: u64, text: &str) -> Result<Vec<u8>> {
+    let mut all = Vec::new(alloc);
+    for _ in 0..count {
+        all.extend_from_slice(text.as_bytes())?;
+        all.push(b'\n')?;
+    }
+    Ok(all)
 }
 
 /// `FLAGS WORDS`: a whole file of one segment at 0x10078, whose first word is the entry.

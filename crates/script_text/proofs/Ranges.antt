@@ -9,7 +9,7 @@ use Rattle.ovl_io.specs.declared.perms.Perms.{Perms}
 use Rattle.script_text.specs.declared.TheConstants.{MOST_CHECKPOINT_NAME, MOST_DUMPED, MOST_PAGES, MOST_TURNS, MOST_WORDS, PC_NUMBER}
 use Rattle.sizes.specs.declared.TheConstants.{LAST_SPACE, MOST_FILE_NAME}
 use Rattle.script_text.specs.declared.command.Command.{Command}
-use Rattle.script_text.specs.declared.command.Command.TheVariants.{Exec, Load, Fork, Run, Step, Checkpoint, Restore, Forget, Speculate, Commit, Discard, Promote, PromoteAll, Drop}
+use Rattle.script_text.specs.declared.command.Command.TheVariants.{Exec, Load, Asm, Fork, Run, Step, Checkpoint, Restore, Forget, Speculate, Commit, Discard, Promote, PromoteAll, Drop}
 use Rattle.script_text.specs.declared.command.Command.TheVariants as command
 use Rattle.script_text.specs.declared.command.Meaning.TheVariants.{Does, Nothing, Outside}
 use Rattle.script_text.specs.Words.{words_of}
@@ -164,6 +164,7 @@ all_give : AllGive forms
 all_give =
     two_given HasName IsTurns file_word turns_word Exec file_given turns_given (λ a b h k. (h, k))
     beside one_given HasName file_word Load file_given (λ a h. h)
+    beside one_given HasName file_word Asm file_given (λ a h. h)
     beside one_given IsProcess process_word Fork process_given (λ a h. h)
     beside one_given IsTurns turns_word Run turns_given (λ a h. h)
     beside two_given IsProcess IsTurns process_word turns_word Step process_given turns_given (λ a b h k. (h, k))

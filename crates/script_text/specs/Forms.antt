@@ -3,7 +3,7 @@ use Rattle.std.specs.Option.{option_and_then, option_or}
 use Rattle.std.specs.List.{filter_map}
 use lib.Pointwise.{pointwise}
 use Rattle.script_text.specs.declared.command.Command.{Command}
-use Rattle.script_text.specs.declared.command.Command.TheVariants.{Exec, Load, Fork, Run, Step, Checkpoint, Restore, Forget, Speculate, Commit, Discard, Promote, PromoteAll, Drop}
+use Rattle.script_text.specs.declared.command.Command.TheVariants.{Exec, Load, Asm, Fork, Run, Step, Checkpoint, Restore, Forget, Speculate, Commit, Discard, Promote, PromoteAll, Drop}
 use Rattle.script_text.specs.declared.command.Command.TheVariants as command
 use Rattle.script_text.specs.Kinds.{Kind, file_word, checkpoint_word, turns_word, process_word, address_word, pages_word, perms_word, register_word, dumped_word, words_word, hex_word, all_word}
 
@@ -45,6 +45,7 @@ abbrev pub machine_forms : List Form
 machine_forms =
     form (codes "exec") (two_words file_word turns_word Exec)
     ∷ form (codes "load") (one_word file_word Load)
+    ∷ form (codes "asm") (one_word file_word Asm)
     ∷ form (codes "fork") (one_word process_word Fork)
     ∷ form (codes "run") (one_word turns_word Run)
     ∷ form (codes "step") (two_words process_word turns_word Step)

@@ -5,7 +5,7 @@ use Rattle.ovl_io.specs.Outside.{HasName}
 use Rattle.sizes.specs.declared.TheConstants.{LAST_SPACE}
 use Rattle.script_text.specs.declared.TheConstants.{MOST_CHECKPOINT_NAME, MOST_DUMPED, MOST_PAGES, MOST_POKED, MOST_TURNS, MOST_WORDS, PC_NUMBER}
 use Rattle.script_text.specs.declared.command.Command.{Command}
-use Rattle.script_text.specs.declared.command.Command.TheVariants.{Exec, Load, Fork, Run, Step, Checkpoint, Restore, Forget, Speculate, Commit, Discard, Promote, PromoteAll, Drop}
+use Rattle.script_text.specs.declared.command.Command.TheVariants.{Exec, Load, Asm, Fork, Run, Step, Checkpoint, Restore, Forget, Speculate, Commit, Discard, Promote, PromoteAll, Drop}
 use Rattle.script_text.specs.declared.command.Command.TheVariants as command
 
 -- What a command that a script gives asks for, and what holds of it.
@@ -14,6 +14,7 @@ use Rattle.script_text.specs.declared.command.Command.TheVariants as command
 abbrev pub asks : Command → Option (List ℕ)
 asks (Exec name turns) = Some name
 asks (Load name) = Some name
+asks (Asm name) = Some name
 asks (command.Fork p) = None
 asks (command.Checkpoint p name) = None
 asks (command.Restore p name) = None
@@ -78,6 +79,7 @@ IsWords words = (1 ≤ words) × (words ≤ MOST_WORDS)
 abbrev pub IsGiven : Command → Type 0
 IsGiven (Exec name turns) = HasName name × IsTurns turns
 IsGiven (Load name) = HasName name
+IsGiven (Asm name) = HasName name
 IsGiven (Fork p) = IsProcess p
 IsGiven (Run turns) = IsTurns turns
 IsGiven (Step p turns) = IsProcess p × IsTurns turns

@@ -13,6 +13,8 @@ pub enum Command {
     Exec(Bytes, u32),
     /// Makes a running process from a file.
     Load(Bytes),
+    /// Assembles a file's text, and makes a running process from it.
+    Asm(Bytes),
     /// Makes a running process with a process's registers and memory.
     Fork(u16),
     /// So many turns, by round robin.
@@ -71,6 +73,7 @@ impl Command {
         match self {
             Command::Exec(name, _) => Some(name),
             Command::Load(name) => Some(name),
+            Command::Asm(name) => Some(name),
             Command::Run(_)
             | Command::Step(_, _)
             | Command::List

@@ -5,7 +5,7 @@ ghost use Rattle.script_text.specs.Kinds.{file_word, checkpoint_word, turns_word
 ghost use Rattle.script_text.specs.Forms.{no_words, one_word, two_words, three_words, four_words, machine_forms, debugger_forms, made_by, command_of};
 ghost use Rattle.script_text.specs.Script.{is_comment, meaning_of};
 ghost use Rattle.script_text.specs.declared.command.Command.{Command};
-ghost use Rattle.script_text.specs.declared.command.Command.TheVariants.{Exec, Load, Fork, Run, Step, Checkpoint, Restore, Forget, Speculate, Commit, Discard, Promote, PromoteAll, Drop};
+ghost use Rattle.script_text.specs.declared.command.Command.TheVariants.{Exec, Load, Asm, Fork, Run, Step, Checkpoint, Restore, Forget, Speculate, Commit, Discard, Promote, PromoteAll, Drop};
 ghost use Rattle.script_text.specs.declared.command.Command.TheVariants as command;
 
 use crate::command::{Command, Meaning};
@@ -88,6 +88,20 @@ fn load(alloc: Global, words: &[u8]) -> Result<Option<Command>, AllocError>
     };
     match file_word(alloc, name)? {
         Some(name) => Ok(Some(Command::Load(name))),
+        None => Ok(None),
+    }
+}
+
+/// `asm FILE`
+fn asm(alloc: Global, words: &[u8]) -> Result<Option<Command>, AllocError>
+    ensures { IfOk result (λ command. command ≡ one_word file_word Asm (words_of words.now)) }
+{
+    let name = match one_word(words) {
+        Some(name) => name,
+        None => return Ok(None),
+    };
+    match file_word(alloc, name)? {
+        Some(name) => Ok(Some(Command::Asm(name))),
         None => Ok(None),
     }
 }
@@ -364,6 +378,8 @@ fn machine_command(alloc: Global, first: &[u8], words: &[u8]) -> Result<Option<C
         exec(alloc, words)
     } else if first == b"load".as_slice() {
         load(alloc, words)
+    } else if first == b"asm".as_slice() {
+        asm(alloc, words)
     } else if first == b"fork".as_slice() {
         Ok(fork(words))
     } else if first == b"run".as_slice() {

@@ -32,6 +32,10 @@ fn show(alloc: Global, command: &Command, out: &mut Vec<u8>) -> Result<(), Alloc
             out.extend_from_slice(b"load ")?;
             return out.extend_from_slice(name.as_slice());
         }
+        Command::Asm(name) => {
+            out.extend_from_slice(b"asm ")?;
+            return out.extend_from_slice(name.as_slice());
+        }
         Command::Fork(p) => format!(in alloc; "fork {p}")?,
         Command::Run(turns) => format!(in alloc; "run {turns}")?,
         Command::Step(p, turns) => format!(in alloc; "step {p} {turns}")?,
@@ -144,7 +148,7 @@ fn scripts_say_what_the_grammar_says(rt: HostRuntime) -> Result<(), Fail> {
             rows = rows.saturating_add(1);
         }
     }
-    assert_eq!(rt; rows, 1528);
+    assert_eq!(rt; rows, 1555);
     Ok(())
 }
 

@@ -13,3 +13,12 @@ returns-in-NumbersUsed-clause-text c = c.push_text-in-NumbersUsed.ensures.text �
 
 pub returns-in-Outside-clause-text : goal.returns-in-Outside-clause-text
 returns-in-Outside-clause-text c = c.push_text-in-Outside.ensures.text ∙ ap (λ k. c.args.line.now.items ++ code_text k) (sym c.in-Outside.is)
+
+pub returns-in-AsmLine-clause-text : goal.returns-in-AsmLine-clause-text
+returns-in-AsmLine-clause-text c = c.push_numbered.ensures.text ∙ ap (λ k. c.args.line.now.items ++ code_text k) (sym c.in-AsmLine.is)
+
+pub returns-in-AsmOutOfReach-clause-text : goal.returns-in-AsmOutOfReach-clause-text
+returns-in-AsmOutOfReach-clause-text c = c.push_numbered-in-AsmOutOfReach.ensures.text ∙ ap (λ k. c.args.line.now.items ++ code_text k) (sym c.in-AsmOutOfReach.is)
+
+pub returns-in-AsmTooMany-clause-text : goal.returns-in-AsmTooMany-clause-text
+returns-in-AsmTooMany-clause-text c = c.push_text-in-AsmTooMany.ensures.text ∙ ap (λ k. c.args.line.now.items ++ code_text k) (sym c.in-AsmTooMany.is)

@@ -1,5 +1,5 @@
 use Rattle.std.proofs.Common.{refl, codes, ◌∙◌}
-use Rattle.script_text.specs.declared.command.Command.TheVariants.{Exec, Load, Fork, Run, Step, Checkpoint, Restore, Forget, Speculate, Commit, Discard, Promote, PromoteAll, Drop}
+use Rattle.script_text.specs.declared.command.Command.TheVariants.{Exec, Load, Asm, Fork, Run, Step, Checkpoint, Restore, Forget, Speculate, Commit, Discard, Promote, PromoteAll, Drop}
 use Rattle.script_text.specs.declared.command.Command.TheVariants as command
 use Rattle.script_text.specs.Words.{words_of}
 use Rattle.script_text.specs.Kinds.{file_word, checkpoint_word, turns_word, process_word, address_word, pages_word, perms_word, all_word}
@@ -24,110 +24,118 @@ returns-then-eq-2 c =
 
 pub returns-then-eq-3 : goal.returns-then-eq-3
 returns-then-eq-3 c =
-    c.fork.ensures
-    ∙ at_row machine_forms (codes "fork") c.as_slice-else-eq-2.result.now (one_word process_word Fork)
-    c.args.first.now (words_of c.args.words.now) (λ ws. refl) c.as_slice-else-eq-2.ensures c.if-eq-3.ensures
+    let words = words_of c.args.words.now in
+    if_ok c.asm.result (one_word file_word Asm words) (made_by machine_forms c.args.first.now words)
+    (at_row machine_forms (codes "asm") c.as_slice-else-eq-2.result.now (one_word file_word Asm)
+    c.args.first.now (words_of c.args.words.now) (λ ws. refl) c.as_slice-else-eq-2.ensures c.if-eq-3.ensures) c.asm.ensures
 
 pub returns-then-eq-4 : goal.returns-then-eq-4
 returns-then-eq-4 c =
-    c.run.ensures
-    ∙ at_row machine_forms (codes "run") c.as_slice-else-eq-3.result.now (one_word turns_word Run)
+    c.fork.ensures
+    ∙ at_row machine_forms (codes "fork") c.as_slice-else-eq-3.result.now (one_word process_word Fork)
     c.args.first.now (words_of c.args.words.now) (λ ws. refl) c.as_slice-else-eq-3.ensures c.if-eq-4.ensures
 
 pub returns-then-eq-5 : goal.returns-then-eq-5
 returns-then-eq-5 c =
-    c.step.ensures
-    ∙ at_row machine_forms (codes "step") c.as_slice-else-eq-4.result.now (two_words process_word turns_word Step)
+    c.run.ensures
+    ∙ at_row machine_forms (codes "run") c.as_slice-else-eq-4.result.now (one_word turns_word Run)
     c.args.first.now (words_of c.args.words.now) (λ ws. refl) c.as_slice-else-eq-4.ensures c.if-eq-5.ensures
 
 pub returns-then-eq-6 : goal.returns-then-eq-6
 returns-then-eq-6 c =
-    let words = words_of c.args.words.now in
-    if_ok c.checkpoint.result (two_words process_word checkpoint_word Checkpoint words) (made_by machine_forms c.args.first.now words)
-    (at_row machine_forms (codes "checkpoint") c.as_slice-else-eq-5.result.now (two_words process_word checkpoint_word Checkpoint)
-    c.args.first.now (words_of c.args.words.now) (λ ws. refl) c.as_slice-else-eq-5.ensures c.if-eq-6.ensures) c.checkpoint.ensures
+    c.step.ensures
+    ∙ at_row machine_forms (codes "step") c.as_slice-else-eq-5.result.now (two_words process_word turns_word Step)
+    c.args.first.now (words_of c.args.words.now) (λ ws. refl) c.as_slice-else-eq-5.ensures c.if-eq-6.ensures
 
 pub returns-then-eq-7 : goal.returns-then-eq-7
 returns-then-eq-7 c =
     let words = words_of c.args.words.now in
-    if_ok c.restore.result (two_words process_word checkpoint_word Restore words) (made_by machine_forms c.args.first.now words)
-    (at_row machine_forms (codes "restore") c.as_slice-else-eq-6.result.now (two_words process_word checkpoint_word Restore)
-    c.args.first.now (words_of c.args.words.now) (λ ws. refl) c.as_slice-else-eq-6.ensures c.if-eq-7.ensures) c.restore.ensures
+    if_ok c.checkpoint.result (two_words process_word checkpoint_word Checkpoint words) (made_by machine_forms c.args.first.now words)
+    (at_row machine_forms (codes "checkpoint") c.as_slice-else-eq-6.result.now (two_words process_word checkpoint_word Checkpoint)
+    c.args.first.now (words_of c.args.words.now) (λ ws. refl) c.as_slice-else-eq-6.ensures c.if-eq-7.ensures) c.checkpoint.ensures
 
 pub returns-then-eq-8 : goal.returns-then-eq-8
 returns-then-eq-8 c =
     let words = words_of c.args.words.now in
-    if_ok c.forget.result (one_word checkpoint_word Forget words) (made_by machine_forms c.args.first.now words)
-    (at_row machine_forms (codes "forget") c.as_slice-else-eq-7.result.now (one_word checkpoint_word Forget)
-    c.args.first.now (words_of c.args.words.now) (λ ws. refl) c.as_slice-else-eq-7.ensures c.if-eq-8.ensures) c.forget.ensures
+    if_ok c.restore.result (two_words process_word checkpoint_word Restore words) (made_by machine_forms c.args.first.now words)
+    (at_row machine_forms (codes "restore") c.as_slice-else-eq-7.result.now (two_words process_word checkpoint_word Restore)
+    c.args.first.now (words_of c.args.words.now) (λ ws. refl) c.as_slice-else-eq-7.ensures c.if-eq-8.ensures) c.restore.ensures
 
 pub returns-then-eq-9 : goal.returns-then-eq-9
 returns-then-eq-9 c =
-    c.speculate.ensures
-    ∙ at_row machine_forms (codes "speculate") c.as_slice-else-eq-8.result.now (one_word process_word Speculate)
-    c.args.first.now (words_of c.args.words.now) (λ ws. refl) c.as_slice-else-eq-8.ensures c.if-eq-9.ensures
+    let words = words_of c.args.words.now in
+    if_ok c.forget.result (one_word checkpoint_word Forget words) (made_by machine_forms c.args.first.now words)
+    (at_row machine_forms (codes "forget") c.as_slice-else-eq-8.result.now (one_word checkpoint_word Forget)
+    c.args.first.now (words_of c.args.words.now) (λ ws. refl) c.as_slice-else-eq-8.ensures c.if-eq-9.ensures) c.forget.ensures
 
 pub returns-then-eq-10 : goal.returns-then-eq-10
 returns-then-eq-10 c =
-    c.commit.ensures
-    ∙ at_row machine_forms (codes "commit") c.as_slice-else-eq-9.result.now (one_word process_word Commit)
+    c.speculate.ensures
+    ∙ at_row machine_forms (codes "speculate") c.as_slice-else-eq-9.result.now (one_word process_word Speculate)
     c.args.first.now (words_of c.args.words.now) (λ ws. refl) c.as_slice-else-eq-9.ensures c.if-eq-10.ensures
 
 pub returns-then-eq-11 : goal.returns-then-eq-11
 returns-then-eq-11 c =
-    c.discard.ensures
-    ∙ at_row machine_forms (codes "discard") c.as_slice-else-eq-10.result.now (one_word process_word Discard)
+    c.commit.ensures
+    ∙ at_row machine_forms (codes "commit") c.as_slice-else-eq-10.result.now (one_word process_word Commit)
     c.args.first.now (words_of c.args.words.now) (λ ws. refl) c.as_slice-else-eq-10.ensures c.if-eq-11.ensures
 
 pub returns-then-eq-12 : goal.returns-then-eq-12
 returns-then-eq-12 c =
-    c.promote.ensures
-    ∙ at_rows machine_forms (codes "promote") c.as_slice-else-eq-11.result.now (two_words process_word address_word Promote) (two_words process_word all_word (λ p all. PromoteAll p))
+    c.discard.ensures
+    ∙ at_row machine_forms (codes "discard") c.as_slice-else-eq-11.result.now (one_word process_word Discard)
     c.args.first.now (words_of c.args.words.now) (λ ws. refl) c.as_slice-else-eq-11.ensures c.if-eq-12.ensures
 
 pub returns-then-eq-13 : goal.returns-then-eq-13
 returns-then-eq-13 c =
-    c.compact.ensures
-    ∙ at_row machine_forms (codes "compact") c.as_slice-else-eq-12.result.now (no_words command.Compact)
+    c.promote.ensures
+    ∙ at_rows machine_forms (codes "promote") c.as_slice-else-eq-12.result.now (two_words process_word address_word Promote) (two_words process_word all_word (λ p all. PromoteAll p))
     c.args.first.now (words_of c.args.words.now) (λ ws. refl) c.as_slice-else-eq-12.ensures c.if-eq-13.ensures
 
 pub returns-then-eq-14 : goal.returns-then-eq-14
 returns-then-eq-14 c =
-    c.map.ensures
-    ∙ at_row machine_forms (codes "map") c.as_slice-else-eq-13.result.now (four_words process_word address_word pages_word perms_word command.Map)
+    c.compact.ensures
+    ∙ at_row machine_forms (codes "compact") c.as_slice-else-eq-13.result.now (no_words command.Compact)
     c.args.first.now (words_of c.args.words.now) (λ ws. refl) c.as_slice-else-eq-13.ensures c.if-eq-14.ensures
 
 pub returns-then-eq-15 : goal.returns-then-eq-15
 returns-then-eq-15 c =
-    c.unmap.ensures
-    ∙ at_row machine_forms (codes "unmap") c.as_slice-else-eq-14.result.now (three_words process_word address_word pages_word command.Unmap)
+    c.map.ensures
+    ∙ at_row machine_forms (codes "map") c.as_slice-else-eq-14.result.now (four_words process_word address_word pages_word perms_word command.Map)
     c.args.first.now (words_of c.args.words.now) (λ ws. refl) c.as_slice-else-eq-14.ensures c.if-eq-15.ensures
 
 pub returns-then-eq-16 : goal.returns-then-eq-16
 returns-then-eq-16 c =
-    c.give_up.ensures
-    ∙ at_row machine_forms (codes "drop") c.as_slice-else-eq-15.result.now (one_word process_word Drop)
+    c.unmap.ensures
+    ∙ at_row machine_forms (codes "unmap") c.as_slice-else-eq-15.result.now (three_words process_word address_word pages_word command.Unmap)
     c.args.first.now (words_of c.args.words.now) (λ ws. refl) c.as_slice-else-eq-15.ensures c.if-eq-16.ensures
 
-pub returns-else-eq-16 : goal.returns-else-eq-16
-returns-else-eq-16 c =
+pub returns-then-eq-17 : goal.returns-then-eq-17
+returns-then-eq-17 c =
+    c.give_up.ensures
+    ∙ at_row machine_forms (codes "drop") c.as_slice-else-eq-16.result.now (one_word process_word Drop)
+    c.args.first.now (words_of c.args.words.now) (λ ws. refl) c.as_slice-else-eq-16.ensures c.if-eq-17.ensures
+
+pub returns-else-eq-17 : goal.returns-else-eq-17
+returns-else-eq-17 c =
     at_no_row machine_forms c.args.first.now (words_of c.args.words.now) (
     not_text (codes "exec") c.as_slice.result.now c.args.first.now c.as_slice.ensures c.if-eq.ensures
     beside not_text (codes "load") c.as_slice-else-eq.result.now c.args.first.now c.as_slice-else-eq.ensures c.if-eq-2.ensures
-    beside not_text (codes "fork") c.as_slice-else-eq-2.result.now c.args.first.now c.as_slice-else-eq-2.ensures c.if-eq-3.ensures
-    beside not_text (codes "run") c.as_slice-else-eq-3.result.now c.args.first.now c.as_slice-else-eq-3.ensures c.if-eq-4.ensures
-    beside not_text (codes "step") c.as_slice-else-eq-4.result.now c.args.first.now c.as_slice-else-eq-4.ensures c.if-eq-5.ensures
-    beside not_text (codes "checkpoint") c.as_slice-else-eq-5.result.now c.args.first.now c.as_slice-else-eq-5.ensures c.if-eq-6.ensures
-    beside not_text (codes "restore") c.as_slice-else-eq-6.result.now c.args.first.now c.as_slice-else-eq-6.ensures c.if-eq-7.ensures
-    beside not_text (codes "forget") c.as_slice-else-eq-7.result.now c.args.first.now c.as_slice-else-eq-7.ensures c.if-eq-8.ensures
-    beside not_text (codes "speculate") c.as_slice-else-eq-8.result.now c.args.first.now c.as_slice-else-eq-8.ensures c.if-eq-9.ensures
-    beside not_text (codes "commit") c.as_slice-else-eq-9.result.now c.args.first.now c.as_slice-else-eq-9.ensures c.if-eq-10.ensures
-    beside not_text (codes "discard") c.as_slice-else-eq-10.result.now c.args.first.now c.as_slice-else-eq-10.ensures c.if-eq-11.ensures
-    beside not_text (codes "promote") c.as_slice-else-eq-11.result.now c.args.first.now c.as_slice-else-eq-11.ensures c.if-eq-12.ensures
-    beside not_text (codes "promote") c.as_slice-else-eq-11.result.now c.args.first.now c.as_slice-else-eq-11.ensures c.if-eq-12.ensures
-    beside not_text (codes "compact") c.as_slice-else-eq-12.result.now c.args.first.now c.as_slice-else-eq-12.ensures c.if-eq-13.ensures
-    beside not_text (codes "map") c.as_slice-else-eq-13.result.now c.args.first.now c.as_slice-else-eq-13.ensures c.if-eq-14.ensures
-    beside not_text (codes "unmap") c.as_slice-else-eq-14.result.now c.args.first.now c.as_slice-else-eq-14.ensures c.if-eq-15.ensures
-    beside not_text (codes "drop") c.as_slice-else-eq-15.result.now c.args.first.now c.as_slice-else-eq-15.ensures c.if-eq-16.ensures
+    beside not_text (codes "asm") c.as_slice-else-eq-2.result.now c.args.first.now c.as_slice-else-eq-2.ensures c.if-eq-3.ensures
+    beside not_text (codes "fork") c.as_slice-else-eq-3.result.now c.args.first.now c.as_slice-else-eq-3.ensures c.if-eq-4.ensures
+    beside not_text (codes "run") c.as_slice-else-eq-4.result.now c.args.first.now c.as_slice-else-eq-4.ensures c.if-eq-5.ensures
+    beside not_text (codes "step") c.as_slice-else-eq-5.result.now c.args.first.now c.as_slice-else-eq-5.ensures c.if-eq-6.ensures
+    beside not_text (codes "checkpoint") c.as_slice-else-eq-6.result.now c.args.first.now c.as_slice-else-eq-6.ensures c.if-eq-7.ensures
+    beside not_text (codes "restore") c.as_slice-else-eq-7.result.now c.args.first.now c.as_slice-else-eq-7.ensures c.if-eq-8.ensures
+    beside not_text (codes "forget") c.as_slice-else-eq-8.result.now c.args.first.now c.as_slice-else-eq-8.ensures c.if-eq-9.ensures
+    beside not_text (codes "speculate") c.as_slice-else-eq-9.result.now c.args.first.now c.as_slice-else-eq-9.ensures c.if-eq-10.ensures
+    beside not_text (codes "commit") c.as_slice-else-eq-10.result.now c.args.first.now c.as_slice-else-eq-10.ensures c.if-eq-11.ensures
+    beside not_text (codes "discard") c.as_slice-else-eq-11.result.now c.args.first.now c.as_slice-else-eq-11.ensures c.if-eq-12.ensures
+    beside not_text (codes "promote") c.as_slice-else-eq-12.result.now c.args.first.now c.as_slice-else-eq-12.ensures c.if-eq-13.ensures
+    beside not_text (codes "promote") c.as_slice-else-eq-12.result.now c.args.first.now c.as_slice-else-eq-12.ensures c.if-eq-13.ensures
+    beside not_text (codes "compact") c.as_slice-else-eq-13.result.now c.args.first.now c.as_slice-else-eq-13.ensures c.if-eq-14.ensures
+    beside not_text (codes "map") c.as_slice-else-eq-14.result.now c.args.first.now c.as_slice-else-eq-14.ensures c.if-eq-15.ensures
+    beside not_text (codes "unmap") c.as_slice-else-eq-15.result.now c.args.first.now c.as_slice-else-eq-15.ensures c.if-eq-16.ensures
+    beside not_text (codes "drop") c.as_slice-else-eq-16.result.now c.args.first.now c.as_slice-else-eq-16.ensures c.if-eq-17.ensures
     beside tt
     )
