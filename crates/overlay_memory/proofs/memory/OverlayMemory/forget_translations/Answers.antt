@@ -1,4 +1,3 @@
-use Rattle.std.proofs.Common.{ap, ◌∙◌}
 use Rattle.overlay_pages.specs.View as seen
 use Rattle.overlay_memory.specs.View.{cached_view}
 use Rattle.overlay_memory.proofs.Truths.{flushed_lists, forgotten_translated, with_cache}
