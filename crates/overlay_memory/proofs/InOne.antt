@@ -25,11 +25,11 @@ use Rattle.overlay_memory.specs.View.{AreOverlaysSmall, NoneAwaits}
 use Rattle.overlay_memory.specs.StateMemory.{still_there}
 use Rattle.overlay_memory.proofs.Bringing.{HasBrought, brought_none, brought_one, brought_writable, joined_books, joins_nothing}
 use Rattle.overlay_memory.proofs.Fronting.{at_address, may_be_used, of_address, own_there}
-use Rattle.overlay_memory.proofs.Joining.{has_under, one_under}
+use Rattle.overlay_memory.proofs.Joining.{has_under}
 use Rattle.overlay_memory.proofs.Pieced.{permitted}
 use Rattle.overlay_memory.proofs.Settled.{IsPlacedAnew, first_room, first_row, first_settled, has_settled, joined_few, joined_small, row, row_units, settled_none, settled_row, settles_later, settles_none}
 use Rattle.overlay_memory.proofs.Stored.{IsDone, full_store, stored_by, stored_first}
-use Rattle.overlay_memory.proofs.Touching.{touched_one}
+use Rattle.overlay_memory.specs.TouchLaws.{one_under, touched_one}
 use Rattle.overlay_memory.proofs.Views.{own_set}
 use Rattle.space_maps.specs.Options.{by_test}
 use Rattle.space_maps.specs.Spaces.{page_in, space_in}

@@ -24,7 +24,7 @@ use Rattle.overlay_memory.specs.StateMemory.{same_pages}
 use Rattle.overlay_memory.proofs.InOne.{row_of_one}
 use Rattle.overlay_memory.proofs.Pieced.{permitted}
 use Rattle.overlay_memory.proofs.Stored.{IsDone, full_store, stored_more}
-use Rattle.overlay_memory.proofs.Touching.{touched_two}
+use Rattle.overlay_memory.specs.TouchLaws.{touched_two}
 use Rattle.space_maps.specs.Spaces.{page_in, space_in}
 
 -- Stores whose bytes lie in two pages.

@@ -1,6 +1,5 @@
-use Rattle.std.proofs.Common.{◌≡◌, ℕ, ◌+◌, ◌-◌, ◌*◌, ◌/◌, ◌<◌, ◌≤◌, ◌⊎◌, inl, inr, Bool, true, false, cond, List, [], ◌∷◌, sym, ap, subst, ◌∙◌, refl, arith}
+use Rattle.std.proofs.Common.{◌≡◌, ℕ, ◌+◌, ◌-◌, ◌*◌, ◌/◌, ◌<◌, ◌⊎◌, inl, inr, Bool, true, false, cond, List, [], ◌∷◌, sym, ap, subst, ◌∙◌, refl, arith}
 use Rattle.std.specs.Prelude.{◌||◌, ◌&&◌, ◌==◌, nat_eq, nat_lt, nat_le}
-use Rattle.std.specs.List.{range_with_len}
 use Rattle.std.proofs.lemmas.Bool.{cases_order, eq-eqb, eqb-true, false≢true, le-ltb, lt-ltb, ne_eqb}
 use Rattle.std.proofs.lemmas.Bool.Decides.{nat_tests}
 use Rattle.sizes.specs.declared.TheConstants.{LINE_BYTES, PAGE_LINES}
@@ -89,10 +88,3 @@ has_under at count line some low high =
     both true true g h = refl
     both true false g h = h
     both false b g h = g
-
--- those of bytes in one line
-pub one_under : (at count line : ℕ) → 0 < count → LINE_BYTES * line ≤ at → at + count ≤ LINE_BYTES * line + LINE_BYTES → lines_under at count ≡ line ∷ []
-one_under at count line some low high =
-    let first : at / 64 ≡ line = omega (arith, some, low, high) in
-    let one : (at + count - 1) / 64 + 1 - at / 64 ≡ 1 = omega (arith, some, low, high) in
-    ap (λ a. range_with_len a ((at + count - 1) / 64 + 1 - at / 64)) first ∙ ap (range_with_len line) one

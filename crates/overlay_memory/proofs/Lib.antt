@@ -1,7 +1,6 @@
 pub mod Overwritten
 pub mod LineBytes
 pub mod Views
-pub mod Touching
 pub mod Pieced
 pub mod ReadSoFar
 pub mod Filling

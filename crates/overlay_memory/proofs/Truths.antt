@@ -131,6 +131,10 @@ small_put old s p x holds few small = small_but old (put_page old s p x) s small
 
 -- What each change leaves.
 
+-- the entries of a space were removed, and nothing else
+pub forgotten_translated : (v : State) (s : ℕ) (t : Translations Cached) → AreTranslated v t → AreTranslated v (flushed s t)
+forgotten_translated v s t all = record { entries = true_flushed v v s t (λ q r other. refl) all.entries; apart = all.apart; small = all.small }
+
 -- the entries of a space were removed
 pub flushed_lists : (s : ℕ) (view old : TranslatedView) (new : Translations Cached) → view ≡ old → new ≡ flushed s view.cache
     → bare new ≡ flushed s (translations_of old)

@@ -76,4 +76,4 @@ RebasesAlike old new space page from other most None =
     × (translations_of new ≡ flushed space (translations_of old))
 RebasesAlike old new space page from other most (Some told) =
     (31 < length (apart_in (state_of old) space page from other))
-    × ((told ≡ length (apart_in (state_of old) space page from other)) ⊎ (most < told)) × (new ≡ old)
+    × ((told ≡ length (apart_in (state_of old) space page from other)) ⊎ (most < told)) × (told ≤ PAGE_LINES) × (new ≡ old)

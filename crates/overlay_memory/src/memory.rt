@@ -699,6 +699,15 @@ impl OverlayMemory {
         self.pages.line_mut(space, page, line)
     }
 
+    /// Removes the translations of a space. Costs a look at each entry.
+    pub fn forget_translations(&mut self, space: u16)
+        ensures pages { self.new.pages ≡ self.old.pages }
+        ensures translations { translations_of self.new ≡ flushed space (translations_of self.old) }
+    {
+        self.fronts.clear();
+        self.cache.flush(space);
+    }
+
     /// How many pages accesses found the entry of. It stays at 2^64 - 1.
     pub fn hits(&self) -> u64
         ensures hits { result ≡ (translations_of self.now).hits }

@@ -31,7 +31,7 @@ returns-then-len-gt-MOST_OWN c =
     let told = subst (λ m. TellsApart (apart_in (state_of m) c.args.space c.args.page c.args.from c.args.other) c.args.most c.lines_apart-lines.result) c.self.view_is c.lines_apart-lines.ensures.apart in
     let many = told_many (apart_in (state_of c.args.self.now) c.args.space c.args.page c.args.from c.args.other) c.lines_apart-lines.result c.args.most c.len-then-len-gt-MOST_OWN.result told
     c.len-then-len-gt-MOST_OWN.ensures.count (omega (arith, c.if-len-gt-MOST_OWN.true, c.len.ensures.count, c.len-then-len-gt-MOST_OWN.ensures.count)) c.requires.most in
-    (many.0, many.1, refl)
+    (many.0, many.1, omega (arith, c.len.ensures.are.few, c.len.ensures.count, c.len-then-len-gt-MOST_OWN.ensures.count), refl)
 
 pub rebase_page-requires-clause-away : goal.rebase_page-requires-clause-away
 rebase_page-requires-clause-away c =

@@ -8,7 +8,14 @@ use Rattle.overlay_bits.specs.Below.{below_filter, below_range, below_same, is_b
 use Rattle.ledger.specs.Touched.{lines_on_page, touched, touched_between}
 use Rattle.overlay_memory.specs.Pieces.{lines_under}
 
--- What bytes touch that lie in one page, or in two.
+-- Laws: what bytes touch that lie in one page, or in two.
+
+-- the lines of bytes in one line
+pub one_under : (at count line : ℕ) → 0 < count → LINE_BYTES * line ≤ at → at + count ≤ LINE_BYTES * line + LINE_BYTES → lines_under at count ≡ line ∷ []
+one_under at count line some low high =
+    let first : at / 64 ≡ line = omega (arith, some, low, high) in
+    let one : (at + count - 1) / 64 + 1 - at / 64 ≡ 1 = omega (arith, some, low, high) in
+    ap (λ a. range_with_len a ((at + count - 1) / 64 + 1 - at / 64)) first ∙ ap (range_with_len line) one
 
 -- those of the first numbers that pass a test which says that they lie between two
 filter_range : (test : ℕ → Bool) (first n k : ℕ) → first + n ≤ k → ((i : ℕ) → i < k → test i ≡ is_between first (first + n) i)

@@ -1,0 +1,194 @@
+//! One page, or all of a space.
+
+ghost use Rattle.std.specs.Prelude.{◌≡◌, ◌+◌, ◌<◌, false, true, IsSome, OnOk, is_some};
+ghost use Rattle.sizes.specs.declared.TheConstants.{PAGE_END};
+ghost use Rattle.std.specs.Option.{option_map};
+ghost use Rattle.ledger.specs.Changes.{is_origin_here};
+ghost use Rattle.ledger.specs.Ledger.{holding_at};
+ghost use Rattle.overlay_memory.specs.Translated.{KeepsOtherTranslations};
+ghost use Rattle.overlay_memory.specs.View.{NoneAwaits, state_of, translations_of};
+ghost use Rattle.overlay_pages.specs.State.{books};
+ghost use Rattle.page_dedup.specs.Deduplicated.{Deduplicates, HasShared, SharesOne, has_origin_at};
+ghost use Rattle.page_dedup.specs.Marked.{AreMarks};
+ghost use Rattle.space_maps.specs.Spaces.{holds_space, page_in, space_in};
+ghost use Rattle.translation_cache.specs.Translations.{flushed};
+
+use crate::error::DedupError;
+use crate::marks::{MARKS, has_mark, mark, mark_frames};
+use overlay_memory::OverlayMemory;
+
+/// The most lines that a page may have of its own on the frame of another one.
+const MOST_APART: u32 = 31;
+
+/// How many lines a page has.
+const LINES: u32 = 64;
+
+// Whether a page is there.
+fn has_page(mem: &OverlayMemory, space: u16, page: u64) -> bool
+    ensures { result ≡ is_some (page_in (state_of mem.now) space page) }
+{
+    match mem.next_page(space, page) {
+        Some(found) => found == page,
+        None => false,
+    }
+}
+
+// Whether a page is on a frame, which isn't the zero frame.
+fn is_on(mem: &OverlayMemory, space: u16, page: u64, frame: u32) -> bool
+    requires there { IsSome (page_in (state_of mem.now) space page) }
+    ensures on { result ≡ has_origin_at (books (state_of mem.now)) space page (frame + 1) }
+    ensures low { page < PAGE_END }
+{
+    match mem.frame_of(space, page) {
+        Some(found) => found == frame,
+        None => false,
+    }
+}
+
+// Whether some page of a space is on the frame of a page, which isn't the zero frame. Costs two look-ups for each page up to the first
+// that is.
+fn has_frame(mem: &OverlayMemory, space: u16, from: u16, other: u64, frame: u32) -> bool
+    requires theirs { option_map (λ h. h.origin) (holding_at (books (state_of mem.now)) from other)
+        ≡ Some (frame + 1) }
+    ensures { result ≡ is_origin_here (books (state_of mem.now)) space from other }
+{
+    let mut at = 0;
+    'looking: while let Some(page) = mem.next_page(space, at) {
+        if is_on(mem, space, page, frame) {
+            return true;
+        }
+        at = page + 1;
+    }
+    false
+}
+
+// Whether some page of a space is on the frame of a page of another one, and that isn't the zero frame. A page that is alone shares its
+// frame with none.
+fn is_frame_here(mem: &OverlayMemory, space: u16, from: u16, other: u64) -> bool
+    requires theirs { IsSome (page_in (state_of mem.now) from other) }
+    ensures { result ≡ is_origin_here (books (state_of mem.now)) space from other }
+{
+    match mem.frame_of(from, other) {
+        Some(frame) => {
+            if from != space && mem.is_alone(from, other) {
+                return false;
+            }
+            has_frame(mem, space, from, other, frame)
+        }
+        None => false,
+    }
+}
+
+/// Puts a page on another one: it gives its frame up and comes onto that of the other page, and what differs there becomes its own. Both
+/// pages are there, neither space is speculating, and no page of the first one awaits. NotAlone exactly where the page isn't alone; else
+/// FrameHere exactly where the other page is on a frame other than the zero frame, and some page of the space is on it; else NotAlike
+/// exactly where more than 31 lines are the other page's own or differ, with how many those are. After an error everything is as before.
+/// No memory changes, and the units fall by at least 8. Takes no memory. Costs a look-up for each page of the space where the other
+/// page's frame is shared, a comparison of each line, a copy of the page and of each line that becomes its own.
+pub fn deduplicate(
+    mem: &mut OverlayMemory,
+    space: u16,
+    page: u64,
+    from: u16,
+    other: u64,
+) -> Result<(), DedupError>
+    requires there { IsSome (page_in (state_of mem.old) space page) }
+    requires theirs { IsSome (page_in (state_of mem.old) from other) }
+    requires settled { (space_in (state_of mem.old) space).speculating ≡ false }
+    requires settled_from { (space_in (state_of mem.old) from).speculating ≡ false }
+    requires none_awaits { NoneAwaits (state_of mem.old) space }
+    ensures deduplicates { Deduplicates mem.old mem.new space page from other result }
+    ensures translations { OnOk result
+        (translations_of mem.new ≡ flushed space (translations_of mem.old)) }
+{
+    if !mem.is_alone(space, page) {
+        return Err(DedupError::NotAlone);
+    }
+    if is_frame_here(mem, space, from, other) {
+        return Err(DedupError::FrameHere);
+    }
+    match mem.rebase_if_alike(space, page, from, other, LINES) {
+        Some(lines) => Err(DedupError::NotAlike(lines)),
+        None => Ok(()),
+    }
+}
+
+// Whether the frame of a page of a space that is there is marked; the zero frame isn't.
+fn is_marked(mem: &OverlayMemory, from: u16, page: u64, space: u16, marks: &[bool; MARKS]) -> bool
+    requires theirs { IsSome (page_in (state_of mem.now) from page) }
+    requires marks { AreMarks (books (state_of mem.now)) space marks.now }
+    ensures { result ≡ is_origin_here (books (state_of mem.now)) space from page }
+{
+    match mem.frame_of(from, page) {
+        Some(frame) => has_mark(marks, frame),
+        None => false,
+    }
+}
+
+// Puts a page of a space on the page of the same number of another one, where that can be. The marks are those of the space's pages.
+fn share_one(
+    mem: &mut OverlayMemory,
+    marks: &mut [bool; MARKS],
+    space: u16,
+    page: u64,
+    from: u16,
+) -> bool
+    requires there { IsSome (page_in (state_of mem.old) space page) }
+    requires settled { (space_in (state_of mem.old) space).speculating ≡ false }
+    requires settled_from { (space_in (state_of mem.old) from).speculating ≡ false }
+    requires none_awaits { NoneAwaits (state_of mem.old) space }
+    requires marks { AreMarks (books (state_of mem.old)) space marks.old }
+    ensures shares { SharesOne mem.old mem.new space page from result }
+    ensures marks { AreMarks (books (state_of mem.new)) space marks.new }
+    ensures lists { KeepsOtherTranslations space mem.old mem.new }
+    ensures low { page < PAGE_END }
+{
+    let _here = mem.has_space(space);
+    if !has_page(mem, from, page) {
+        return false;
+    }
+    if !mem.is_alone(space, page) {
+        return false;
+    }
+    if is_marked(mem, from, page, space, marks) {
+        return false;
+    }
+    let own = mem.frame_of(space, page);
+    let theirs = mem.frame_of(from, page);
+    match mem.rebase_if_alike(space, page, from, page, MOST_APART) {
+        Some(_) => return false,
+        None => {}
+    }
+    mark(marks, own, false);
+    mark(marks, theirs, true);
+    true
+}
+
+/// Puts each page of a space that another one has too on the page of the same number there, ascending, where that can be by the ledger
+/// at that point, and passes over the others, as `deduplicate` would refuse them. Both spaces are there and not speculating, and no page
+/// of the first one awaits. Answers how many were put there. No memory changes, and the units fall by at least 8 for each of them. The
+/// space has no translations any more. Takes no memory: the frames that pages of the space are on are marked in an array that lives as
+/// long as the call. Costs a few look-ups for each page of the space, and what `deduplicate` costs for each that is alone in both, up to
+/// the line that is too many.
+pub fn deduplicate_all(mem: &mut OverlayMemory, space: u16, from: u16) -> u32
+    requires there { holds_space (state_of mem.old) space ≡ true }
+    requires theirs { holds_space (state_of mem.old) from ≡ true }
+    requires settled { (space_in (state_of mem.old) space).speculating ≡ false }
+    requires settled_from { (space_in (state_of mem.old) from).speculating ≡ false }
+    requires none_awaits { NoneAwaits (state_of mem.old) space }
+    ensures shared { HasShared (state_of mem.old) (state_of mem.new) space from result }
+    ensures translations { translations_of mem.new ≡ flushed space (translations_of mem.old) }
+{
+    let mut marks = [false; MARKS];
+    mark_frames(mem, space, &mut marks);
+    let mut count = 0;
+    let mut at = 0;
+    'sharing: while let Some(page) = mem.next_page(space, at) {
+        if share_one(mem, &mut marks, space, page, from) {
+            count += 1;
+        }
+        at = page + 1;
+    }
+    mem.forget_translations(space);
+    count
+}
