@@ -3,8 +3,7 @@ use Rattle.command_core.specs.State.{Registry, registry_of}
 use Rattle.command_core.specs.Rows.{Row}
 use Rattle.command_core.specs.Giving.{GivesChange, WantKeeps}
 use Rattle.command_core.specs.Changes.{CanBeTold, TakesText, asm_row, load_row}
-use Rattle.command_core.specs.Standing.{GivesAs}
-use Rattle.command_core.specs.Ample.{IsAmplyDone, amply_assembled}
+use Rattle.command_core.specs.Ample.{amply_assembled}
 use Rattle.command_core.specs.LikeLaws.{gives_as}
 use Rattle.command_core.proofs.Assemblings.{gives_refused, loads_text, refused_keeps, refused_taken, refused_told, taken_loaded}
 use Rattle.command_core.proofs.session.Session.assemble.Goals as goal
@@ -12,7 +11,7 @@ use Rattle.command_core.proofs.session.Session.assemble.Goals as goal
 pub returns-in-Ok-clause-gives : goal.returns-in-Ok-clause-gives
 returns-in-Ok-clause-gives c =
     subst (λ (row : Registry → Row). GivesChange (row (registry_of c.args.self.now.state)) c.args.self.now.state c.load.result c.load.new.self.state)
-    (loads_text c.args.text.now c.in-Ok.file.items c.as_slice.result.now c.in-Ok.ensures.file c.as_slice.ensures) c.load.ensures.gives
+    (loads_text c.args.text.now c.in-Ok.file.items c.as_slice.result.now c.in-Ok.ensures.file c.as_slice.ensures.value) c.load.ensures.gives
 
 pub returns-in-Ok-clause-stands : goal.returns-in-Ok-clause-stands
 returns-in-Ok-clause-stands c = gives_as (asm_row c.args.text.now) c.args.self.now c.load.new.self c.load.result (returns-in-Ok-clause-gives c)
@@ -21,7 +20,7 @@ pub returns-in-Ok-clause-taken : goal.returns-in-Ok-clause-taken
 returns-in-Ok-clause-taken c =
     let state = c.args.self.now.state in
     taken_loaded c.args.text.now c.in-Ok.file.items c.in-Ok.ensures.file c.in-Ok.ensures.loaded state c.load.result c.load.new.self.state
-    (subst (λ bytes. GivesChange (load_row bytes (registry_of state)) state c.load.result c.load.new.self.state) c.as_slice.ensures c.load.ensures.gives)
+    (subst (λ bytes. GivesChange (load_row bytes (registry_of state)) state c.load.result c.load.new.self.state) c.as_slice.ensures.value c.load.ensures.gives)
 
 pub returns-in-Ok-clause-ample : goal.returns-in-Ok-clause-ample
 returns-in-Ok-clause-ample c = amply_assembled c.args.text.now c.args.self.now c.load.new.self c.load.result (returns-in-Ok-clause-stands c)
