@@ -29,12 +29,12 @@ use Rattle.delta_image.specs.Applied.{applied, applied_bytes, applied_page, base
 
 -- Bytes are their lines, one behind the other.
 
-joined_same : (f g : ℕ → List ℕ) (n : ℕ) → ((i : ℕ) → i < n → f i ≡ g i) → joined f n ≡ joined g n
+pub joined_same : (f g : ℕ → List ℕ) (n : ℕ) → ((i : ℕ) → i < n → f i ≡ g i) → joined f n ≡ joined g n
 unfolding joined
 joined_same f g zero same = refl
 joined_same f g (suc n) same = λ i. joined_same f g n (λ k lt. same k (omega (arith, lt))) i ++ same n (omega arith) i
 
-joined_lines : (bytes : List ℕ) (n : ℕ) → joined (line_in bytes) n ≡ take (64 * n) bytes
+pub joined_lines : (bytes : List ℕ) (n : ℕ) → joined (line_in bytes) n ≡ take (64 * n) bytes
 unfolding joined
 joined_lines bytes zero = refl
 joined_lines bytes (suc n) =
@@ -137,13 +137,18 @@ ascend base from (e ∷ es) sorted all each =
           each q page (ap (λ (b : Bool). cond b (Some e.1) (find nat_cmp q es)) other ∙ found)),
     )
 
-line_long : (bytes : List ℕ) (i : ℕ) → length bytes ≡ PAGE_BYTES → i < PAGE_LINES → length (line_in bytes i) ≡ 64
+-- a line has the bytes of a line
+pub line_long : (bytes : List ℕ) (i : ℕ) → length bytes ≡ PAGE_BYTES → i < PAGE_LINES → length (line_in bytes i) ≡ 64
 line_long bytes i whole lt = length-take-le 64 (drop (64 * i) bytes) (omega (arith, length-drop (64 * i) bytes, whole, lt))
 
 all_lines : (bytes : List ℕ) (numbers : List ℕ) (from : ℕ) → length bytes ≡ PAGE_BYTES → Rise from numbers PAGE_LINES
     → AllByRecursion IsLine (map (λ i. (i, line_in bytes i)) numbers)
 all_lines bytes [] from whole rise = tt
 all_lines bytes (x ∷ xs) from whole rise = (line_long bytes x whole (omega (arith, rise_bounds (x + 1) xs 64 rise.1)), all_lines bytes xs (x + 1) whole rise.1)
+
+pub lines_whole : (bytes base : List ℕ) → length bytes ≡ PAGE_BYTES → AllByRecursion IsLine (gathered_lines bytes base)
+lines_whole bytes base whole =
+    all_lines bytes (different_lines bytes base) 0 whole (are_where (λ i. not (bytes_eq (line_in bytes i) (line_in base i)))).rise
 
 numbers_back : (f : ℕ → List ℕ) (numbers : List ℕ) → numbers_of (map (λ i. (i, f i)) numbers) ≡ numbers
 numbers_back f [] = refl
@@ -158,19 +163,24 @@ page_fine base number page low may whole =
       all_lines page.bytes numbers 0 whole rise,
     )
 
-pub gathered_fine : (state : ProcessState) (regs : Registers) (memory base : Memory) → IsState state → AreRegisters regs → IsMemory memory
-    → length (entries memory) ≤ MOST_SPACE_PAGES → ((number : ℕ) (page : Page) → get memory number ≡ Some page → IsTrue (are_perms page.perms))
-    → IsFine (gathered state regs memory base)
-gathered_fine state regs memory base is are whole few may =
-    record {
-      state = is;
-      regs = are;
-      few = omega (arith, few, length-map (entries memory) (λ (entry : ℕ × Page). gathered_page base entry.0 entry.1));
-      pages = ascend base 0 (entries memory) (entries_sorted memory) (from_zero (entries memory)) (λ q page found.
-          let there = get-entries memory q ∙ found in
-          page_fine base q page (whole.low q page there) (may q page there) (whole.whole q page there));
-    }
+-- pages of a memory as an image may have them
+pub gathered_ascend : (memory base : Memory) → IsMemory memory → ((number : ℕ) (page : Page) → get memory number ≡ Some page → IsTrue (are_perms page.perms))
+    → Ascend IsPage 0 (map (λ entry. gathered_page base entry.0 entry.1) (entries memory))
+gathered_ascend memory base whole may =
+    ascend base 0 (entries memory) (entries_sorted memory) (from_zero (entries memory)) (λ q page found.
+    let there = get-entries memory q ∙ found in
+    page_fine base q page (whole.low q page there) (may q page there) (whole.whole q page there))
   where
     from_zero : (es : List (ℕ × Page)) → AllByRecursion (λ e. 0 ≤ e.0) es
     from_zero [] = tt
     from_zero (e ∷ es) = (omega arith, from_zero es)
+
+pub gathered_fine : (state : ProcessState) (regs : Registers) (memory base : Memory) → IsState state → AreRegisters regs → IsMemory memory
+    → length (entries memory) ≤ MOST_SPACE_PAGES → ((number : ℕ) (page : Page) → get memory number ≡ Some page → IsTrue (are_perms page.perms))
+    → IsFine (gathered state regs memory base)
+gathered_fine state regs memory base is are whole few may = record {
+  state = is;
+  regs = are;
+  few = omega (arith, few, length-map (entries memory) (λ (entry : ℕ × Page). gathered_page base entry.0 entry.1));
+  pages = gathered_ascend memory base whole may;
+}

@@ -8,7 +8,7 @@ use Rattle.delta_image.specs.declared.delta.DeltaPage.{DeltaPage}
 use Rattle.delta_image.specs.declared.encoding.TheConstants.{MAGIC, PAGE_HEAD_BYTES}
 use Rattle.delta_image.specs.Line.{Line, IsLine}
 use Rattle.delta_image.specs.Image.{head_part, image_of, lines_part, page_part, pages_part, register_numbers, registers_part, state_part, words_part}
-use Rattle.delta_image.specs.Fine.{Ascend, IsFine, IsPage}
+use Rattle.delta_image.specs.Fine.{Ascend, HasLines, IsFine, IsPage}
 
 -- How long the image of a delta is: so it is known from how many pages and lines there are.
 
@@ -39,11 +39,18 @@ abbrev pub line_count : List DeltaPage → ℕ
 line_count [] = 0
 line_count (page ∷ pages) = length page.lines + line_count pages
 
-pages_length : (from : ℕ) (pages : List DeltaPage) → Ascend IsPage from pages → length (pages_part pages) ≡ 13 * length pages + 64 * line_count pages
-pages_length from [] are = refl
-pages_length from (p ∷ ps) are =
-    length-append (page_part p) (pages_part ps)
-    ∙ omega (arith, page_length p, lines_length p.lines are.1.1, pages_length (p.page + 1) ps are.2)
+-- each of their lines has the bytes of a line
+abbrev pub AreWhole : List DeltaPage → Type 0
+AreWhole pages = AllByRecursion HasLines pages
+
+pages_length : (pages : List DeltaPage) → AreWhole pages → length (pages_part pages) ≡ 13 * length pages + 64 * line_count pages
+pages_length [] are = refl
+pages_length (p ∷ ps) are =
+    length-append (page_part p) (pages_part ps) ∙ omega (arith, page_length p, lines_length p.lines are.0, pages_length ps are.1)
+
+pub pages_whole : (from : ℕ) (pages : List DeltaPage) → Ascend IsPage from pages → AreWhole pages
+pages_whole from [] are = tt
+pages_whole from (p ∷ ps) are = (are.1.1, pages_whole (p.page + 1) ps are.2)
 
 pub parts_length : (delta : Delta)
     → length (image_of delta) ≡ length (state_part delta.state) + length (registers_part delta.regs) + 8 + length (pages_part delta.pages)
@@ -53,8 +60,13 @@ parts_length delta = at (state_part delta.state) (registers_part delta.regs) (to
     at s r c p four =
         omega (arith, four, length-append (MAGIC ++ s ++ r ++ c) p, length-append (MAGIC ++ s ++ r) c, length-append (MAGIC ++ s) r)
 
+-- by its state and its registers, and how many pages and lines there are
+pub length_of_parts : (delta : Delta) → AreWhole delta.pages
+    → length (image_of delta)
+    ≡ length (state_part delta.state) + length (registers_part delta.regs) + 8 + PAGE_HEAD_BYTES * length delta.pages + LINE_BYTES * line_count delta.pages
+length_of_parts delta whole = omega (arith, parts_length delta, pages_length delta.pages whole)
+
 pub image_length : (delta : Delta) → IsFine delta
     → length (image_of delta)
     ≡ length (state_part delta.state) + 264 + PAGE_HEAD_BYTES * length delta.pages + LINE_BYTES * line_count delta.pages
-image_length delta fine =
-    omega (arith, parts_length delta, registers_length delta.regs fine.regs.count, pages_length 0 delta.pages fine.pages)
+image_length delta fine = omega (arith, length_of_parts delta (pages_whole 0 delta.pages fine.pages), registers_length delta.regs fine.regs.count)

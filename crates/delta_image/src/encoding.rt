@@ -1,11 +1,12 @@
 //! The image of a delta, and its length.
 
-ghost use Rattle.std.specs.Prelude.{◌≡◌, ◌≤◌, ◌^◌, ◌++◌, length, IfOk, OnOk};
+ghost use Rattle.std.specs.Prelude.{◌≡◌, ◌+◌, ◌*◌, ◌≤◌, ◌^◌, ◌++◌, length, IfOk, OnOk};
 ghost use Rattle.std.specs.List.{AllByRecursion};
 ghost use Rattle.sizes.specs.declared.TheConstants.{LINE_BYTES, MOST_SPACE_PAGES, PAGE_LINES};
 ghost use Rattle.overlay_bits.specs.Kept.{word_of};
 ghost use Rattle.overlay_bits.specs.Lines.{Rise};
 ghost use Rattle.delta_image.specs.declared.delta.Delta.{Delta};
+ghost use Rattle.delta_image.specs.declared.encoding.TheConstants.{PAGE_HEAD_BYTES};
 ghost use Rattle.delta_image.specs.Line.{IsLine, numbers_of};
 ghost use Rattle.delta_image.specs.Image.{head_part, image_of, kind_code, lines_part, page_part, pages_part, registers_part, state_part, words_part};
 ghost use Rattle.delta_image.specs.Fine.{AreRegisters, Ascend, HasLines, IsImageOf, IsPlain, IsState, IsWord};
@@ -14,6 +15,7 @@ use crate::delta::{Delta, DeltaPage};
 use bitflags::Flags;
 use ovl_io::{FaultKind, ProcessState};
 use rv_execute::Regs;
+use sizes::LINE_BYTES;
 use std::alloc::{AllocError, Global};
 
 /// What an image begins with: OVL1.
@@ -186,6 +188,18 @@ pub fn length_of(d: &Delta) -> usize
 {
     let parts = state_length(d.state) + registers_length(&d.regs);
     MAGIC.len() + parts + 4 + pages_length(d.pages.as_slice())
+}
+
+/// How many bytes the image of a delta has, by its state, its registers, and how many pages and lines it has in all.
+pub fn length_by(state: ProcessState, regs: &Regs, pages: u32, lines: u64) -> u64
+    requires few { lines ≤ 2 ^ 32 }
+    ensures length { result ≡ length (state_part state) + length (registers_part regs.now) + 8
+        + PAGE_HEAD_BYTES * pages + LINE_BYTES * lines }
+    ensures small { result ≤ 274 + PAGE_HEAD_BYTES * pages + LINE_BYTES * lines }
+{
+    let parts = state_length(state) + registers_length(regs);
+    let pages = PAGE_HEAD_BYTES as u64 * u64::from(pages);
+    (MAGIC.len() + parts + 4) as u64 + pages + LINE_BYTES as u64 * lines
 }
 
 /// The image of a delta. It has at most 131,072 pages, which ascend strictly and are below 2^26; in the permissions of each W comes with

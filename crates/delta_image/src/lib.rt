@@ -24,5 +24,5 @@ pub use decoding::decode;
 pub use delta::{Delta, DeltaPage};
 pub use delta_lines::DeltaLines;
 pub use delta_pages::DeltaPages;
-pub use encoding::{MAGIC, PAGE_HEAD_BYTES, encode, length_of};
+pub use encoding::{MAGIC, PAGE_HEAD_BYTES, encode, length_by, length_of};
 pub use image_error::ImageError;

@@ -1,0 +1,12 @@
+pub mod Lines
+pub mod Looked
+pub mod Walking
+pub mod Bytes
+pub mod Parts
+pub mod Fitted
+pub mod Begun
+pub mod Mapped
+pub mod Put
+pub mod Counting
+pub mod Whole
+pub mod Added
