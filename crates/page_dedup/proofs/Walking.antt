@@ -200,10 +200,10 @@ module _ (old now : State) (space from done at page : ℕ) (so : IsSharing old n
     rest = ap (λ (l : Ledger). ledger_after (Rebase space from (shares_from mine theirs space from l (page + 1) at_page.more)) l) books_is
         ∙ ap (λ p. ledger_after (Rebase space from p) (books now)) (sym (left_as true can)) ∙ so.rest;
     count = omega (
-        arith,
-        ap (λ (l : Ledger). length (shares_from mine theirs space from l (page + 1) at_page.more)) books_is,
-        ap (λ (p : List (ℕ × ℕ × List ℕ)). length p) (left_as true can),
-        so.count
+      arith,
+      ap (λ (l : Ledger). length (shares_from mine theirs space from l (page + 1) at_page.more)) books_is,
+      ap (λ (p : List (ℕ × ℕ × List ℕ)). length p) (left_as true can),
+      so.count,
     );
     units = omega (arith, put.units, so.units);
     beside = beside_both old now new space so.beside put.beside;

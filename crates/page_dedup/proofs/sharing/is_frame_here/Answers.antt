@@ -10,7 +10,7 @@ returns-then-is_alone c =
 
 pub has_frame-requires : goal.has_frame-requires
 has_frame-requires c = record {
-  theirs = on_origin (books (state_of c.args.mem.now)) c.args.from c.args.other c.in-Some.frame (told_on (state_of c.args.mem.now) c.args.from c.args.other _ c.in-Some.ensures.frame)
+  theirs = on_origin (books (state_of c.args.mem.now)) c.args.from c.args.other c.in-Some.frame (told_on (state_of c.args.mem.now) c.args.from c.args.other _ c.in-Some.ensures.frame);
 }
 
 pub returns-in-None : goal.returns-in-None
