@@ -15,7 +15,11 @@ use Rattle.overlay_memory.specs.declared.error.MemoryError.{MemoryError}
 use Rattle.overlay_memory.specs.declared.error.MemoryError.TheVariants.{Unmapped, Forbidden, Full}
 use Rattle.overlay_memory.specs.declared.error.SpaceError.{SpaceError}
 use Rattle.overlay_memory.specs.declared.error.SpaceError.TheVariants as refused
+use Rattle.overlay_memory.specs.Pieces.{KeepsAllElse}
 use Rattle.overlay_memory.specs.View.{NoneAwaits, TranslatedView, state_of}
+use Rattle.page_dedup.specs.Deduplicated.{Deduplicates}
+use Rattle.page_dedup.specs.declared.error.DedupError.{DedupError}
+use Rattle.page_dedup.specs.declared.error.DedupError.TheVariants.{NotAlone, FrameHere, NotAlike}
 use Rattle.space_ledger.specs.View.{LedgerView, with_zero_pages}
 use Rattle.space_maps.specs.Laws.{space_absent, space_beside, space_left, space_put}
 use Rattle.space_maps.specs.Options.{by_option}
@@ -101,6 +105,17 @@ pub none_awaits_copies : (old new : TranslatedView) (from to : ℕ) (r : Result 
 none_awaits_copies old new from to (Ok done) h settled = none_awaits_beside (state_of old) (state_of new) to (h.1.awaiting ∙ sym (settled to)) h.1.others settled
 none_awaits_copies old new from to (Err (refused.Full needed limit)) h settled = none_awaits_view old new h.kept settled
 none_awaits_copies old new from to (Err refused.Memory) h settled = none_awaits_as (state_of old) (state_of new) h.1 settled
+
+-- what pages that are put on other pages leave
+pub none_awaits_kept : (old new : State) (s : ℕ) → KeepsAllElse old new s → NoPageAwaits old → NoPageAwaits new
+none_awaits_kept old new s kept = none_awaits_beside old new s kept.awaiting kept.others
+
+pub none_awaits_put_on : (old new : TranslatedView) (s p from other : ℕ) (r : Result (Unit {0}) DedupError) → Deduplicates old new s p from other r
+    → NoPageAwaits (state_of old) → NoPageAwaits (state_of new)
+none_awaits_put_on old new s p from other (Ok done) h = none_awaits_kept (state_of old) (state_of new) s h.1.beside
+none_awaits_put_on old new s p from other (Err NotAlone) h = none_awaits_view old new h.1
+none_awaits_put_on old new s p from other (Err FrameHere) h = none_awaits_view old new h.2
+none_awaits_put_on old new s p from other (Err (NotAlike lines)) h = none_awaits_view old new h.3
 
 -- what pages that go leave
 pub none_awaits_cut : (n from : ℕ) (v : State) (s : ℕ) → NoPageAwaits v → NoPageAwaits (cut_pages v s from n)

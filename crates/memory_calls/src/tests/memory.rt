@@ -1,6 +1,7 @@
 use super::spaces::{Spaces, open};
 use overlay_memory::SpaceError;
 use ovl_io::Perms;
+use page_dedup::DedupError;
 use sizes::PAGE_BYTES;
 use std::process::Abort;
 use std::test::Fail;
@@ -20,6 +21,12 @@ enum Step {
     Write(u16, u64, usize, u8),
     // of space 1 a page and a line, whose byte 1 becomes this one where it stands
     SetByte1(u64, u8, u8),
+    // of a space a page and a line, whose bytes become this one, whatever the permissions
+    PutLine(u16, u64, u8, u8),
+    // of a space a page that is put on one of another space, and the answer
+    Dedup(u16, u64, u16, u64, Result<(), DedupError>),
+    // all pages of a space that another one has too, and how many were put there
+    DedupAll(u16, u16, u32),
     // a new space with the pages of one
     Fork(u16, u16),
     // the pages of a space in the place of those of another one, and the answer
@@ -32,14 +39,18 @@ enum Step {
     Copy(u16, u32),
     // of space 1 the first of so many pages that isn't there
     Absent(u64, u32, Option<u64>),
-    // of space 1 the two bytes from an address on
-    Two(u64, [u8; 2]),
+    // of a space the two bytes from an address on
+    Two(u16, u64, [u8; 2]),
+    // of two spaces a page of each: whether both are on one frame, which isn't the zero frame
+    SameFrame(u16, u64, u16, u64, bool),
+    // of a space a page that is to be read alone
+    Shut(u16, u64),
 }
 
 // Asserts that the bytes from an address on are these two.
-fn assert_two(rt: &impl Abort, spaces: &Spaces, address: u64, bytes: [u8; 2]) {
+fn assert_two(rt: &impl Abort, spaces: &Spaces, space: u16, address: u64, bytes: [u8; 2]) {
     let mut into = [0xEE; 2];
-    assert_eq!(rt; spaces.read(rt, 1, address, &mut into), Ok(()));
+    assert_eq!(rt; spaces.read(rt, space, address, &mut into), Ok(()));
     assert_eq!(rt; into, bytes, "at {address}");
 }
 
@@ -63,6 +74,7 @@ fn change_pages(rt: &impl Abort, spaces: &mut Spaces, step: Step) -> Result<(), 
         }
         Step::Write(space, address, n, byte) => write_equal(rt, spaces, space, address, n, byte),
         Step::SetByte1(page, line, byte) => spaces.set_byte_1(rt, 1, page, line, byte),
+        Step::PutLine(space, page, line, byte) => spaces.put_line(rt, space, page, line, byte),
         _ => {}
     }
     Ok(())
@@ -77,6 +89,12 @@ fn change_space(rt: &impl Abort, spaces: &mut Spaces, step: Step) -> Result<(), 
         }
         Step::Restore(saved, into, answer) => {
             assert_eq!(rt; spaces.restore(rt, saved, into), answer);
+        }
+        Step::Dedup(space, page, from, other, answer) => {
+            assert_eq!(rt; spaces.deduplicate(rt, space, page, from, other), answer);
+        }
+        Step::DedupAll(space, from, count) => {
+            assert_eq!(rt; spaces.deduplicate_all(rt, space, from), count);
         }
         Step::Copy(space, n) => assert_eq!(rt; spaces.copy_table(rt, space)?.len(), n),
         _ => {}
@@ -97,7 +115,15 @@ fn look(rt: &impl Abort, spaces: &Spaces, step: Step) {
         Step::Absent(page, n, found) => {
             assert_eq!(rt; spaces.first_absent(rt, 1, page, n), found);
         }
-        Step::Two(address, bytes) => assert_two(rt, spaces, address, bytes),
+        Step::Two(space, address, bytes) => assert_two(rt, spaces, space, address, bytes),
+        Step::SameFrame(space, page, from, other, same) => {
+            let frame = spaces.frame_of(rt, space, page);
+            assert_eq!(rt;
+                frame.is_some() && frame == spaces.frame_of(rt, from, other),
+                same
+            );
+        }
+        Step::Shut(space, page) => assert_eq!(rt; spaces.perms_of(rt, space, page), Perms::R),
         _ => {}
     }
 }
@@ -120,8 +146,8 @@ const LENT: [Step; 9] = [
     Step::Write(1, 0x1_1000, 1, 0x07),
     Step::SetByte1(16, 0, 0x5A),
     Step::SetByte1(17, 0, 0x5A),
-    Step::Two(0x1_0000, [0x00, 0x5A]),
-    Step::Two(0x1_1000, [0x07, 0x5A]),
+    Step::Two(1, 0x1_0000, [0x00, 0x5A]),
+    Step::Two(1, 0x1_1000, [0x07, 0x5A]),
     Step::Counts(33, 1),
 ];
 
@@ -158,13 +184,13 @@ const RESTORED: [Step; 20] = [
     Step::Place(2, 18, 0x0B),
     Step::Restore(2, 1, Err(SpaceError::Full(65, 64))),
     Step::Counts(58, 33),
-    Step::Two(0x1_0000, [0x07, 0x00]),
+    Step::Two(1, 0x1_0000, [0x07, 0x00]),
     Step::Add(4),
     Step::Restore(4, 3, Ok(())),
     Step::Restore(2, 1, Ok(())),
     Step::Counts(64, 62),
-    Step::Two(0x1_0000, [0x5A, 0x5A]),
-    Step::Two(0x1_1000, [0x09, 0x09]),
+    Step::Two(1, 0x1_0000, [0x5A, 0x5A]),
+    Step::Two(1, 0x1_1000, [0x09, 0x09]),
     Step::Restore(2, 1, Ok(())),
     Step::Counts(64, 62),
 ];
@@ -183,10 +209,10 @@ const LARGE: [Step; 10] = [
     Step::Counts(24, 31),
     Step::Write(1, 0x1_07FF, 1, 0x07),
     Step::Counts(32, 0),
-    Step::Two(0x1_07BF, [0x5A, 0x00]),
+    Step::Two(1, 0x1_07BF, [0x5A, 0x00]),
     Step::Write(1, 0x1_2800, PAGE_BYTES, 0x09),
     Step::Counts(64, 0),
-    Step::Two(0x1_2FFF, [0x09, 0x09]),
+    Step::Two(1, 0x1_2FFF, [0x09, 0x09]),
 ];
 
 #[test]
@@ -231,6 +257,7 @@ fn assert_lines(rt: &impl Abort, spaces: &Spaces, page: u64) {
         assert_two(
             rt,
             spaces,
+            1,
             line_address(page, line),
             [line_byte(page, line), 0],
         );
@@ -274,7 +301,7 @@ const COMING: [Step; 7] = [
     Step::Unmap(1, 2, 3),
     Step::Absent(0, 16, Some(2)),
     Step::Map(1, 2, 3),
-    Step::Two(0x3000, [0, 0]),
+    Step::Two(1, 0x3000, [0, 0]),
     Step::Unmap(1, 0, 16),
     Step::Pages(1, 0),
     Step::Counts(16, 0),
@@ -286,4 +313,135 @@ fn pages_go_and_come_again_as_zeros(rt: HostRuntime) -> Result<(), Fail> {
     take_steps(&rt, &mut spaces, &GOING)?;
     store_lines(&rt, &mut spaces, 3);
     take_steps(&rt, &mut spaces, &COMING)
+}
+
+// Lines are put in a page that may be read alone: in an overlay of the zero page, until it is settled; and in one that is alone.
+const PUT: [Step; 13] = [
+    Step::Add(1),
+    Step::MapShut(1, 16, 1),
+    Step::Place(1, 17, 0x09),
+    Step::PutLine(1, 16, 63, 0x5A),
+    Step::Counts(33, 1),
+    Step::Two(1, 0x1_0FBF, [0x00, 0x5A]),
+    Step::PutLine(1, 17, 0, 0x07),
+    Step::Counts(33, 1),
+    Step::Two(1, 0x1_103F, [0x07, 0x09]),
+    Step::Shut(1, 16),
+    Step::SameFrame(1, 16, 1, 16, false),
+    Step::Write(1, 0x1_1FFF, 1, 0x0B),
+    Step::Two(1, 0x1_1FFE, [0x09, 0x0B]),
+];
+
+#[test]
+fn lines_are_put_whatever_the_permissions(rt: HostRuntime) -> Result<(), Fail> {
+    let mut spaces = Spaces::new(&rt, rt.alloc(), 8)?;
+    take_steps(&rt, &mut spaces, &PUT)
+}
+
+// The 32nd line that is put in a page gives it a frame.
+#[test]
+fn the_32nd_line_that_is_put_gives_a_frame(rt: HostRuntime) -> Result<(), Fail> {
+    let mut spaces = Spaces::new(&rt, rt.alloc(), 8)?;
+    take_steps(&rt, &mut spaces, &[Step::Add(1), Step::MapShut(1, 16, 1)])?;
+    for line in 0u8..31 {
+        spaces.put_line(&rt, 1, 16, line, line);
+    }
+    let settled = [
+        Step::Counts(24, 31),
+        Step::PutLine(1, 16, 63, 0x5A),
+        Step::Counts(32, 0),
+        Step::SameFrame(1, 16, 1, 16, true),
+        Step::Shut(1, 16),
+        Step::Two(1, 0x1_077F, [0x1D, 0x1E]),
+        Step::Two(1, 0x1_0FBF, [0x00, 0x5A]),
+    ];
+    take_steps(&rt, &mut spaces, &settled)
+}
+
+// Two pages with frames of their own, whose last line differs. One is put on the other; then it isn't alone. A third one differs in 32
+// lines, until it differs in 31.
+const SHARED: [Step; 26] = [
+    Step::Add(1),
+    Step::Place(1, 16, 0x09),
+    Step::Add(2),
+    Step::Place(2, 16, 0x09),
+    Step::Write(2, 0x1_0FC0, 1, 0x5A),
+    Step::Place(2, 17, 0x09),
+    Step::Write(2, 0x1_1800, 2048, 0x11),
+    Step::Counts(64, 0),
+    Step::Dedup(2, 17, 1, 16, Err(DedupError::NotAlike(32))),
+    Step::Write(2, 0x1_1800, 64, 0x09),
+    Step::Add(3),
+    Step::Place(3, 17, 0x0B),
+    Step::Dedup(3, 17, 1, 16, Err(DedupError::NotAlike(64))),
+    Step::Dedup(2, 16, 1, 16, Ok(())),
+    Step::Counts(65, 1),
+    Step::SameFrame(2, 16, 1, 16, true),
+    Step::Two(2, 0x1_0FBF, [0x09, 0x5A]),
+    Step::Two(1, 0x1_0FBF, [0x09, 0x09]),
+    Step::Dedup(2, 16, 1, 16, Err(DedupError::NotAlone)),
+    Step::Dedup(2, 17, 1, 16, Err(DedupError::FrameHere)),
+    Step::Unmap(2, 16, 1),
+    Step::Dedup(2, 17, 1, 16, Ok(())),
+    Step::Counts(56, 31),
+    Step::Two(2, 0x1_183F, [0x09, 0x11]),
+    Step::Write(1, 0x1_0000, 1, 0x07),
+    Step::Two(2, 0x1_1000, [0x09, 0x09]),
+];
+
+#[test]
+fn a_page_shares_the_frame_of_another_one(rt: HostRuntime) -> Result<(), Fail> {
+    let mut spaces = Spaces::new(&rt, rt.alloc(), 8)?;
+    take_steps(&rt, &mut spaces, &SHARED)
+}
+
+// A page of zeros with one line of its own, and one that is placed: the line of the first is the second one's too, though both are seen
+// alike there.
+const ON_ZEROS: [Step; 10] = [
+    Step::Add(1),
+    Step::Map(1, 16, 2),
+    Step::Write(1, 0x1_0000, 1, 0x07),
+    Step::Add(2),
+    Step::Place(2, 16, 0),
+    Step::Write(2, 0x1_0000, 1, 0x07),
+    Step::Dedup(2, 16, 1, 16, Ok(())),
+    Step::Counts(18, 2),
+    Step::Two(2, 0x1_0000, [0x07, 0x00]),
+    Step::SameFrame(2, 16, 1, 16, false),
+];
+
+#[test]
+fn a_page_of_zeros_is_shared_too(rt: HostRuntime) -> Result<(), Fail> {
+    let mut spaces = Spaces::new(&rt, rt.alloc(), 8)?;
+    take_steps(&rt, &mut spaces, &ON_ZEROS)
+}
+
+// Of five pages of space 2 one isn't in space 1, one is on the zero frame, one differs in all lines, and two are put there. The second
+// time none is alone.
+const ALL_SHARED: [Step; 19] = [
+    Step::Add(1),
+    Step::Place(1, 16, 0x09),
+    Step::Place(1, 18, 0x09),
+    Step::Map(1, 19, 1),
+    Step::Place(1, 20, 0x0B),
+    Step::Add(2),
+    Step::Place(2, 16, 0x09),
+    Step::Place(2, 17, 0x09),
+    Step::Place(2, 18, 0x09),
+    Step::Map(2, 19, 1),
+    Step::Place(2, 20, 0x0D),
+    Step::Write(2, 0x1_2000, 1, 0x5A),
+    Step::Counts(128, 0),
+    Step::DedupAll(2, 1, 2),
+    Step::Counts(97, 1),
+    Step::SameFrame(2, 18, 1, 18, true),
+    Step::Two(2, 0x1_2000, [0x5A, 0x09]),
+    Step::DedupAll(2, 1, 0),
+    Step::Counts(97, 1),
+];
+
+#[test]
+fn all_pages_share_frames_that_can(rt: HostRuntime) -> Result<(), Fail> {
+    let mut spaces = Spaces::new(&rt, rt.alloc(), 8)?;
+    take_steps(&rt, &mut spaces, &ALL_SHARED)
 }

@@ -1,17 +1,18 @@
 //! A memory in which no page awaits: whatever a call asks for is tried first.
 
-ghost use Rattle.std.specs.Prelude.{◌≡◌, ◌+◌, ◌<◌, ◌≤◌, IfSome, IsTrue, IsSome, None, length, true};
+ghost use Rattle.std.specs.Prelude.{◌≡◌, ◌+◌, ◌<◌, ◌≤◌, IfSome, IsTrue, IsSome, None, false, length, true};
 ghost use Rattle.sizes.specs.declared.TheConstants.{PAGE_END, PAGE_LINES};
 ghost use Rattle.overlay_pages.specs.Changes.{AreAbsent, HasCopyRoom, is_writable};
 ghost use Rattle.overlay_memory.specs.View.{state_of};
 ghost use Rattle.ledger.specs.LargeLaws.{NoneLarge};
 ghost use Rattle.overlay_pages.specs.State.{books};
-ghost use Rattle.space_maps.specs.Spaces.{holds_space, page_in};
+ghost use Rattle.space_maps.specs.Spaces.{holds_space, page_in, space_in};
 
 use bitflags::Flags;
 use fork_checkpoint::{fork_space, restore_space};
 use overlay_memory::{MemoryError, OverlayMemory, SpaceError};
 use ovl_io::Perms;
+use page_dedup::{DedupError, deduplicate, deduplicate_all};
 use page_table::PageTable;
 use sizes::PAGE_BYTES;
 use space_ledger::class_of;
@@ -288,5 +289,53 @@ impl Spaces {
         assert!(rt; self.memory.has_space(saved) && !self.memory.is_speculating(saved));
         assert!(rt; self.memory.has_space(into) && !self.memory.is_speculating(into));
         restore_space(&mut self.memory, saved, into)
+    }
+
+    // Whether a space is there and isn't speculating.
+    fn is_settled(&self, space: u16) -> bool
+        ensures there { IsTrue result → holds_space (state_of self.now) space ≡ true }
+        ensures settled { IsTrue result → (space_in (state_of self.now) space).speculating ≡ false }
+    {
+        self.memory.has_space(space) && !self.memory.is_speculating(space)
+    }
+
+    // The frame of a page that is there, which may be the zero frame.
+    pub(super) fn frame_of(&self, rt: &impl Abort, space: u16, page: u64) -> Option<u32> {
+        assert!(rt; self.has_page(space, page));
+        self.memory.frame_of(space, page)
+    }
+
+    // The permissions of a page that is there.
+    pub(super) fn perms_of(&self, rt: &impl Abort, space: u16, page: u64) -> Perms {
+        assert!(rt; self.has_page(space, page));
+        self.memory.perms_of(space, page)
+    }
+
+    // The bytes of a line of a page that is there become this one. Its space isn't speculating, and 16 units are left.
+    #[tactic(auto, using(overlay_memory::specs::PutLaws::put_fits))]
+    pub(super) fn put_line(&mut self, rt: &impl Abort, space: u16, page: u64, line: u8, byte: u8) {
+        assert!(rt; line < 64 && self.has_page(space, page) && self.is_settled(space));
+        assert!(rt; self.memory.units() + 16 <= self.memory.limit());
+        self.memory.put_line(space, page, line, &[byte; 64]);
+    }
+
+    // Puts a page on another one. Both are there, and their spaces aren't speculating.
+    pub(super) fn deduplicate(
+        &mut self,
+        rt: &impl Abort,
+        space: u16,
+        page: u64,
+        from: u16,
+        other: u64,
+    ) -> Result<(), DedupError> {
+        assert!(rt; self.has_page(space, page) && self.has_page(from, other));
+        assert!(rt; self.is_settled(space) && self.is_settled(from));
+        deduplicate(&mut self.memory, space, page, from, other)
+    }
+
+    // Puts the pages of a space on those of another one. Neither is speculating.
+    pub(super) fn deduplicate_all(&mut self, rt: &impl Abort, space: u16, from: u16) -> u32 {
+        assert!(rt; self.is_settled(space) && self.is_settled(from));
+        deduplicate_all(&mut self.memory, space, from)
     }
 }
