@@ -236,10 +236,6 @@ fn run<const EXTENSION: bool>(
     let pc = process.regs.pc();
     let words = lines.words_from(pc / 4);
     let count = count_from(stops, pc, most.min(words.len() as u32));
-    // said for the compiler, which then asks the loop's question behind the first word only
-    if count == 0 {
-        unreachable!();
-    }
     let mut rest = &words[..count as usize];
     'running: while !rest.is_empty() {
         let (outcome, course) = execute_word::<EXTENSION>(process, view, &rest[0]);
