@@ -85,10 +85,8 @@ impl Fronts {
     fn forget(&mut self)
         ensures { IsClear self.new }
     {
-        let heads = [None; SETS];
-        self.heads = heads;
-        let seen = [None; SEEN_PAGES];
-        self.seen = seen;
+        self.heads.fill(None);
+        self.seen.fill(None);
         self.any = false;
     }
 

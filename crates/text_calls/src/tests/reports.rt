@@ -11,7 +11,7 @@ use std::test::Fail;
 fn answers_are_printed(rt: HostRuntime) -> Result<(), Fail> {
     let name = Bytes::new(Vec::from_slice(rt.alloc(), b"base")?);
     let long = Bytes::new(Vec::from_elem(rt.alloc(), b'n', 32)?);
-    let rows: [(Answer, &[u8]); 24] = [
+    let rows: [(Answer, &[u8]); 17] = [
         (Answer::Done, b"ok\n"),
         (
             Answer::Loaded(1, 17, 0x10078),
@@ -59,28 +59,6 @@ fn answers_are_printed(rt: HostRuntime) -> Result<(), Fail> {
             Answer::Refused(Code::Elf(ElfError::NothingToLoad)),
             b"refused E14 nothing-to-load\n",
         ),
-        (
-            Answer::Refused(Code::AsmLine(1)),
-            b"refused A1 bad-line 1\n",
-        ),
-        (
-            Answer::Refused(Code::AsmTwice(16_777_216)),
-            b"refused A2 twice 16777216\n",
-        ),
-        (
-            Answer::Refused(Code::AsmNoLabel(10)),
-            b"refused A3 no-label 10\n",
-        ),
-        (
-            Answer::Refused(Code::AsmOutOfReach(99)),
-            b"refused A4 out-of-reach 99\n",
-        ),
-        (
-            Answer::Refused(Code::AsmOutOfReach(4_294_967_295)),
-            b"refused A4 out-of-reach 4294967295\n",
-        ),
-        (Answer::Refused(Code::AsmEmpty), b"refused A5 empty\n"),
-        (Answer::Refused(Code::AsmTooMany), b"refused A6 too-many\n"),
     ];
     let mut out = Line::new();
     for (answer, want) in &rows {
