@@ -4,10 +4,7 @@ pub mod Keeping
 pub mod Places
 pub mod Numbers
 pub mod Rows
-pub mod Rans
 pub mod Breaks
-mod Stretches
-pub mod Stretching
 pub mod Standing
 pub mod Loadings
 pub mod Assemblings

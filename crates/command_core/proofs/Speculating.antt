@@ -39,7 +39,8 @@ use Rattle.command_core.specs.Giving.{MachineGives}
 use Rattle.command_core.specs.Refusals.{by_speculating}
 use Rattle.command_core.specs.ProcessChanges.{ChangesProcess, after_commit, after_discard, after_speculate, leaves, process_row, promotion_answer, speculation_answer}
 use Rattle.command_core.proofs.Keeping.{each}
-use Rattle.command_core.proofs.Places.{marked_is, none_flushed_by, none_is, not_free, processes_put}
+use Rattle.command_core.proofs.Places.{marked_is, none_flushed_by, processes_put}
+use Rattle.process_runs.specs.PlaceLaws.{none_is, not_free}
 use Rattle.free_numbers.specs.Numbers.{is_number}
 use Rattle.translation_cache.specs.Absent.{HasNone}
 use Rattle.command_core.proofs.Rows.{fits, is_short, machine_done, machine_full, machine_refused}

@@ -14,7 +14,6 @@ pub mod Mapping
 pub mod Checkpoints
 pub mod Debugging
 pub mod Changes
-pub mod Turns
 pub mod Commands
 pub mod CommandCases
 pub mod Looks

@@ -1,4 +1,4 @@
-use Rattle.std.specs.Prelude.{◌≡◌, ℕ, true, List, Option, Result}
+use Rattle.std.specs.Prelude.{◌≡◌, ℕ, Bool, true, List, Option, Result}
 use Rattle.std.specs.FinMap.{get}
 use Rattle.ovl_io.specs.declared.turn.Turn.{Turn}
 use Rattle.report_text.specs.declared.answer.Answer.{Answer}
@@ -9,7 +9,7 @@ use Rattle.command_core.specs.Rows.{Row, change_by, may_want_memory}
 use Rattle.command_core.specs.Giving.{ComesTo}
 use Rattle.report_text.specs.declared.answer.Code.{Code}
 use Rattle.command_core.specs.Looks.{begun}
-use Rattle.command_core.specs.Turns.{EndsRun, InRun, Speaks, TakesTurn, by_turns, run_found}
+use Rattle.process_runs.specs.Turns.{EndsRun, InRun, Speaks, TakesTurn, by_turns, run_found}
 
 -- A session stands for a state of the copying machine where its processes and its checkpoints, memories included, and its frames are the
 -- state's, and the ledgers are alike. What a call does is said of each state that the session stood for.
@@ -50,8 +50,8 @@ abbrev pub ends_run : InRun → InRun → State → State → Type 0
 ends_run running after_run state after = EndsRun state.breakpoints state.wholes running after.wholes after_run
 
 -- the turns of all processes, begun, and those of one
-abbrev pub begun_run : ℕ → ℕ → State → InRun
-begun_run quantum turns state = run_found state.breakpoints state.wholes (by_turns quantum turns)
+abbrev pub begun_run : ℕ → Bool → ℕ → State → InRun
+begun_run quantum calls turns state = run_found state.breakpoints state.wholes (by_turns quantum calls turns)
 
-abbrev pub begun_step : ℕ → ℕ → State → Result InRun Code
-begun_step p turns state = begun state.breakpoints state.wholes p turns (get state.wholes.processes p)
+abbrev pub begun_step : Bool → ℕ → ℕ → State → Result InRun Code
+begun_step calls p turns state = begun state.breakpoints state.wholes calls p turns (get state.wholes.processes p)

@@ -13,8 +13,6 @@
 //! - `mapping`: pages that are mapped, and that are given up
 //! - `poking`: bytes that are stored
 //! - `reading`: bytes that are looked at
-//! - `turns`: a run in progress
-//! - `taking`: its turns, taken
 #![tactic(auto)]
 
 mod assembling;
@@ -27,12 +25,10 @@ mod process_changes;
 mod reading;
 mod saving;
 mod session;
-mod taking;
-mod turns;
 
 pub use modes::Modes;
 pub use session::{CheckpointView, Counts, ProcessView, Session};
-pub use turns::{Order, Running};
+pub use process_runs::{Order, Running};
 
 /// Bytes of an instruction's word.
 pub const WORD_BYTES: u64 = 4;

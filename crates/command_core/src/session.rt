@@ -3,7 +3,7 @@ ghost use Rattle.script_text.specs.Given.{IsGiven, asks};
 ghost use Rattle.report_text.specs.Answers.{IsCheckpointName};
 ghost use Rattle.sizes.specs.declared.TheConstants.{ADDRESS_END, LAST_SPACE, MOST_FILE_BYTES, MOST_FRAMES, PAGE_BYTES};
 ghost use Rattle.command_core.specs.State.{fresh, registry_of, State, extended};
-ghost use Rattle.command_core.specs.Sessions.{AreSettledCounts, KeepsRest, fresh_session, extended_session};
+ghost use Rattle.command_core.specs.Sessions.{AreSettledCounts, KeepsRest, called_session, fresh_session, extended_session};
 ghost use Rattle.command_core.specs.Giving.{GivesChange, WantKeeps};
 ghost use Rattle.command_core.specs.Rows.{still_row};
 ghost use Rattle.command_core.specs.Copies.{fork_row};
@@ -16,7 +16,7 @@ ghost use Rattle.command_core.specs.Looks.{BeginsStep, CanRead, LooksAt, LooksAt
 ghost use Rattle.command_core.specs.Ample.{IsAmplyDone};
 ghost use Rattle.command_core.specs.Standing.{SessionAnswersAs, GivesAs, HoldsFor, SessionStandsFor, TurnsAs, begun_run, begun_step, ends_run, speaks, takes_turn};
 ghost use Rattle.std.specs.FinMap.{get};
-ghost use Rattle.command_core.specs.Turns.{IsTurnLine, begun_by, lines_left, run_found};
+ghost use Rattle.process_runs.specs.Turns.{IsTurnLine, begun_by, lines_left, run_found};
 
 use crate::assembling::not_assembled;
 use crate::checkpoints::{Checkpoints, Kept};
@@ -26,13 +26,12 @@ use crate::poking::poke;
 use crate::process_changes::{ProcessChange, change_process};
 use crate::reading::{can_read, read_bytes};
 use crate::saving::{checkpoint_number, restore_process, save_process};
-use crate::taking::{ending, next_turn, turns_to_line};
-use crate::turns::{Order, Running};
 use breakpoints::Breakpoints;
 use elf_loader::{ElfError, read_image};
 use free_numbers::FreeNumbers;
 use machine_core::{Machine, SpaceError};
 use ovl_io::{Bytes, ProcessState, Turn};
+use process_runs::{Order, Running, begin, next_turn, turns_to_line};
 use report_text::{Answer, Code, Line};
 use round_robin::RoundRobin;
 use rv_asm::assemble;
@@ -133,9 +132,9 @@ impl Session {
         requires few { frames ≤ MOST_FRAMES }
         requires quantum { 1 ≤ quantum }
         ensures session { IfOk result (λ session. session ≡ fresh_session
-            (record { frames = frames; quantum = quantum; extension = false }) session.free_blocks) }
+            (record { frames = frames; quantum = quantum; extension = false; calls = false }) session.free_blocks) }
         ensures stands { IfOk result (λ session. SessionStandsFor session
-            (fresh (record { frames = frames; quantum = quantum; extension = false }))) }
+            (fresh (record { frames = frames; quantum = quantum; extension = false; calls = false }))) }
     {
         Ok(Session {
             alloc,
@@ -147,6 +146,7 @@ impl Session {
                 frames,
                 quantum,
                 extension: false,
+                calls: false,
             },
         })
     }
@@ -160,6 +160,14 @@ impl Session {
     {
         self.machine.set_extension(on);
         self.modes.extension = on;
+    }
+
+    /// Processes may speculate by themselves from now on, or may not: turns go by it. Nothing else changes. Takes no memory.
+    pub fn set_calls(&mut self, on: bool)
+        ensures set { self.new ≡ called_session on self.old }
+        ensures stands { (state : State) → SessionStandsFor self.old state → SessionStandsFor self.new state }
+    {
+        self.modes.calls = on;
     }
 
     /// Whether there is extension M.
@@ -506,16 +514,16 @@ impl Session {
 
     /// Begins so many turns, at least 1, by round robin.
     pub fn begin_run(&self, turns: u32) -> Running
-        ensures begun { result ≡ begun_run self.now.modes.quantum turns self.now.state }
-        ensures stands { SessionAnswersAs (begun_run self.now.modes.quantum turns) self.now result }
+        ensures begun { result ≡ begun_run self.now.modes.quantum self.now.modes.calls turns self.now.state }
+        ensures stands { SessionAnswersAs (begun_run self.now.modes.quantum self.now.modes.calls turns) self.now result }
     {
         self.begin(Order::ByTurns(RoundRobin::new(self.modes.quantum)), turns)
     }
 
     /// Begins so many turns, at least 1, of one process. Refused where there is none, or where it has ended.
     pub fn begin_step(&self, p: u16, turns: u32) -> Result<Running, Code>
-        ensures begun { BeginsStep self.now.state.breakpoints self.now.state.wholes p turns result }
-        ensures stands { SessionAnswersAs (begun_step p turns) self.now result }
+        ensures begun { BeginsStep self.now.state.breakpoints self.now.state.wholes self.now.modes.calls p turns result }
+        ensures stands { SessionAnswersAs (begun_step self.now.modes.calls p turns) self.now result }
     {
         match self.machine.process(p) {
             None => Err(Code::NoProcess),
@@ -528,12 +536,10 @@ impl Session {
 
     /// A run of which no turn was taken, with the ending that holds.
     fn begin(&self, order: Order, turns: u32) -> Running
-        ensures { result ≡ run_found self.now.state.breakpoints self.now.state.wholes (begun_by order turns) }
+        ensures { result ≡ run_found self.now.state.breakpoints self.now.state.wholes
+            (begun_by order self.now.modes.calls turns) }
     {
-        let mut running = Running::new(order, turns);
-        let stop = ending(&self.machine, &self.breakpoints, &running);
-        running.set_stop(stop);
-        running
+        begin(&self.machine, &self.breakpoints, order, self.modes.calls, turns)
     }
 
     /// Takes the next turn, and answers whose it was and what came of it. None exactly where an ending was found before,

@@ -7,9 +7,9 @@ use Rattle.report_text.specs.declared.answer.Code.TheVariants.{Ended}
 use Rattle.command_core.specs.State.{State, with_wholes}
 use Rattle.command_core.specs.Rows.{refuses}
 use Rattle.command_core.specs.Commands.{rules, step_done, steps, takes_left, takes_turns, told}
-use Rattle.command_core.specs.LikeLaws.{left_found}
+use Rattle.process_runs.specs.LikeLaws.{left_found}
 use Rattle.command_core.specs.Looks.{BeginsStep, begun}
-use Rattle.command_core.specs.Turns.{InRun, Progress, Ran, begun_alone, ran_text, run_found}
+use Rattle.process_runs.specs.Turns.{InRun, Progress, Ran, begun_alone, ran_text, run_found}
 
 -- Turns that were just begun: all of them are left.
 

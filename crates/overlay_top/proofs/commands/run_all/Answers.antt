@@ -1,7 +1,7 @@
 use Rattle.std.proofs.Common.{subst, arith}
 use Rattle.command_core.specs.State.{State}
 use Rattle.command_core.specs.Commands.{Performed}
-use Rattle.command_core.specs.Turns.{by_turns}
+use Rattle.process_runs.specs.Turns.{by_turns}
 use Rattle.overlay_top.specs.Running.{TakesOn}
 use Rattle.overlay_top.proofs.Beginnings.{takes_begun}
 use Rattle.overlay_top.proofs.commands.run_all.Goals as goal

@@ -1,0 +1,4 @@
+pub mod Breaks
+pub mod Rans
+mod Stretches
+pub mod Stretching

@@ -1,0 +1,7 @@
+use Rattle.process_runs.specs.PlaceLaws.{free_stays, process_there}
+use Rattle.process_runs.proofs.taking.answer_request.Goals as goal
+
+pub returns-clause-free : goal.returns-clause-free
+returns-clause-free c =
+    let old = c.args.machine.now in
+    free_stays c.args.p old c.answer.new.machine c.answer.ensures.others (process_there old c.args.p c.requires.runs) c.answer.ensures.unseen
