@@ -8,3 +8,6 @@ pub mod LikeLaws
 -- Turns of the unbounded machine, and laws of it.
 pub mod Unbounded
 pub mod UnboundedLaws
+-- Turns by a list of numbers, and laws of them.
+pub mod Played
+pub mod PlayedLaws

@@ -19,17 +19,6 @@ pub none_is : {X : Type 0} (o : Option X) → is_some o ≡ false → o ≡ None
 none_is None h = refl
 none_is (Some x) h = cc
 
-pub same_start : (machine : Machine) → KeepsPairs machine machine
-same_start machine = record { spaces = λ q. refl; awaiting = λ q. refl; processes = λ q. refl; kept = λ q agree. agree }
-
-pub same_then : (a b c : Machine) → KeepsPairs a b → KeepsPairs b c → KeepsPairs a c
-same_then a b c first second = record {
-  spaces = λ q. second.spaces q ∙ first.spaces q;
-  awaiting = λ q. second.awaiting q ∙ first.awaiting q;
-  processes = λ q. second.processes q ∙ first.processes q;
-  kept = λ q agree. second.kept q (first.kept q agree);
-}
-
 -- a process that is there has a number of its own
 pub not_free : (machine : Machine) (p q : ℕ) → is_some (get machine.processes p) ≡ true → get machine.processes q ≡ None → q ≡ p → ⊥
 not_free machine p q there none same = let lacks = ap is_some (sym (ap (get machine.processes) same) ∙ none) in let both : false ≡ true = sym lacks ∙ there in cc

@@ -3,7 +3,7 @@ use Rattle.std.specs.Option.{is_some}
 use Rattle.std.specs.FinMap.{empty, get}
 use Rattle.translation_cache.specs.Absent.{HasNone}
 use Rattle.space_maps.specs.Spaces.{space_in}
-use Rattle.machine_core.specs.Machine.{Machine, has_space, lists_of, spaces_of}
+use Rattle.machine_core.specs.Machine.{Machine, has_saved, has_space, is_marked, lists_of, spaces_of}
 
 -- Which spaces and processes are there.
 
@@ -14,6 +14,10 @@ OwnSpaces machine = (p : ℕ) → is_some (get machine.processes p) ≡ true →
 -- no page awaits being shared
 abbrev pub NoPageAwaits : Machine → Type 0
 NoPageAwaits machine = (p : ℕ) → (space_in (spaces_of machine) p).awaiting ≡ empty
+
+-- registers and state are kept of exactly the processes whose spaces are marked
+abbrev pub HavePairs : Machine → Type 0
+HavePairs machine = (q : ℕ) → is_marked machine q ≡ has_saved machine q
 
 -- each space without a process is as it was, and still nothing of it was translated
 pub record KeepsFree (old new : Machine) : Type 0 where

@@ -5,10 +5,13 @@
 //!
 //! - `turns`: a run in progress
 //! - `taking`: its turns, taken
+//! - `playing`: turns by a list of numbers
 #![tactic(auto)]
 
+mod playing;
 mod taking;
 mod turns;
 
+pub use playing::play;
 pub use taking::{begin, next_turn, turns_to_line};
 pub use turns::{Order, Running};

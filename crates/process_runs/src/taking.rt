@@ -6,10 +6,9 @@ ghost use Rattle.space_maps.specs.Spaces.{space_in};
 ghost use Rattle.report_text.specs.Answers.{HasPort};
 ghost use Rattle.machine_core.specs.Machine.{AreLike, KeepsPlaces, StaysBut, has_saved, has_space, is_marked, is_running, spaces_of, wholes};
 ghost use Rattle.machine_core.specs.Executions.{after_executions, came_to_last, steps_to};
-ghost use Rattle.self_speculation.specs.Played.{HavePairs};
 ghost use Rattle.self_speculation.specs.Requests.{KeepsPairs};
 ghost use Rattle.self_speculation.specs.Taken.{AnswersRequest, after_taken, taken_turn};
-ghost use Rattle.process_runs.specs.Places.{KeepsFree, NoPageAwaits, OwnSpaces};
+ghost use Rattle.process_runs.specs.Places.{HavePairs, KeepsFree, NoPageAwaits, OwnSpaces};
 ghost use Rattle.breakpoints.specs.Breakpoints.{addresses_of};
 ghost use Rattle.process_runs.specs.Turns.{EndsRun, EndsStretch, FinishesTurn, IsTurnLine, Speaks, TakesTurn, break_among, break_of, ending, ending_by, found_before, last_break, begun_by, lines_left, next_of, rest_of, run_found};
 
@@ -245,7 +244,7 @@ fn ending(
 }
 
 /// One instruction of a running process, and what came of it.
-fn take_event(machine: &mut Machine, p: u16, calls: bool) -> Turn
+pub(crate) fn take_event(machine: &mut Machine, p: u16, calls: bool) -> Turn
     requires runs { is_running (wholes machine.old) p ≡ true }
     requires there { has_space machine.old p ≡ true }
     requires none_awaits { (space_in (spaces_of machine.old) p).awaiting ≡ empty }

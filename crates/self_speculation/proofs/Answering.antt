@@ -13,6 +13,7 @@ use Rattle.ovl_io.specs.declared.turn.Turn.{Turn}
 use Rattle.ovl_io.specs.declared.turn.Turn.TheVariants as turn
 use Rattle.overlay_pages.specs.State.{PageState, memory_of, seen_page}
 use Rattle.overlay_memory.specs.StateMemory.{memory_at}
+use Rattle.translation_cache.specs.Absent.{HasNone, none_flushed}
 use Rattle.space_maps.specs.Spaces.{page_in}
 use Rattle.rv_execute.specs.Calls.{fetch_at}
 use Rattle.rv_execute.specs.Execution.{Asks}
@@ -22,13 +23,14 @@ use Rattle.process_calls.specs.declared.calls.ProcessCall.{ProcessCall}
 use Rattle.process_calls.specs.Calls.{call_at, numbered}
 use Rattle.machine_core.specs.Process.{Process, runs}
 use Rattle.machine_core.specs.declared.process.Process as declared
-use Rattle.machine_core.specs.Machine.{AreLike, Machine, Processes, Wholes, is_running, spaces_of, whole_in, wholes}
+use Rattle.machine_core.specs.Machine.{AreLike, Machine, Processes, Wholes, is_running, lists_of, spaces_of, whole_in, wholes}
 use Rattle.machine_core.specs.Turns.{AreLikeGuests, Guest, after_asked, after_execution, after_turn, came_to, executed, execution_of, guest_after, guest_at, guest_of, guest_refused, translations_executed, turn_asked, turn_in, turn_of, with_guest}
 use Rattle.machine_core.specs.Laws.{IsRequest, like_after_asked, like_asked, like_chain, processes_at, turn_law}
 use Rattle.self_speculation.specs.declared.TheConstants.{ECALL}
-use Rattle.self_speculation.specs.Called.{after_by, after_called, call_by, call_of, called_in, called_turn, guest_called, row_after, row_of, row_turn, turn_by}
+use Rattle.self_speculation.specs.Called.{CallRow, after_by, after_called, call_by, call_of, called_in, called_turn, guest_called, row_after, row_does, row_is_full, row_of, row_translations, row_turn, turn_by}
+use Rattle.self_speculation.specs.Taken.{AnswersRequest}
 use Rattle.self_speculation.specs.CalledLaws.{like_row_after, like_row_turn}
-use Rattle.self_speculation.specs.Requests.{DoesCall, WereAtRequest, guest_at_request, whole_at}
+use Rattle.self_speculation.specs.Requests.{DoesCall, KeepsUnseen, WereAtRequest, guest_at_request, whole_at}
 use Rattle.self_speculation.specs.AskingLaws.{asks, at_request, executed_is}
 
 -- A request that is answered, of each state in which it was made.
@@ -43,7 +45,7 @@ fetched_page memory address may = by_page (get memory (address / PAGE_BYTES)) re
         let denied = ap (λ (b : Bool). cond b (first_denied memory executable (address + 1) 3) (Some address)) (ap (λ (o : Option Page). option_map_or (λ page. false) o false) is) in cc
 
 seen_some : (o : Option PageState) → is_some (option_map seen_page o) ≡ true → IsSome o
-seen_some (Some page) h = tt
+seen_some (Some page) h = refl
 seen_some None h = cc
 
 module _ (p : ℕ) (machine : Machine) (process : declared.Process) (there : get machine.processes p ≡ Some process) where
@@ -110,7 +112,7 @@ module _ (p : ℕ) (machine : Machine) (process : declared.Process) (there : get
           ap (λ (o : Option Process). option_map_or (λ g. with_guest old p (guest_called p g)) (option_map (guest_of old) o) old) here
           ∙ ap (λ (o : Option ProcessCall). with_guest old p (after_by p o guest)) call_is
 
-      module _ (at : Registers) (were : WereAtRequest machine p process at) where
+      module _ (at : Registers) (were : WereAtRequest machine p process.regs at) where
         at_is : at ≡ was.registers
         at_is = were was.registers regs_behind page_there
 
@@ -159,9 +161,9 @@ module _ (p : ℕ) (machine : Machine) (process : declared.Process) (there : get
                   (like_row_after p (row_of p call mine.process) mine theirs guests_like)))),
             )
 
-        plain_here : (turn : Turn) (new : Machine) → call_at at ECALL ≡ None → turn ≡ turn_asked (wholes machine) p → AreLike (wholes new) (after_asked (wholes machine) p)
-            → (turn ≡ called_turn old p) × AreLike (wholes new) (after_called old p)
-        plain_here turn new is turn_is after_is =
+        plain_here : (t : Turn) (new : Machine) → call_at at ECALL ≡ None → t ≡ turn_asked (wholes machine) p → AreLike (wholes new) (after_asked (wholes machine) p)
+            → (t ≡ called_turn old p) × AreLike (wholes new) (after_called old p)
+        plain_here t new is turn_is after_is =
             let by_number = sym number_is ∙ is in
             let law = turn_law Asked old p running came in
             let same_turn : called_turn old p ≡ turn_of old p =
@@ -176,7 +178,7 @@ module _ (p : ℕ) (machine : Machine) (process : declared.Process) (there : get
             )
 
     -- whatever process it has
-    pub answers_call : (at : Registers) → WereAtRequest machine p process at → (call : ProcessCall) (turn : Turn) (new : Machine) → call_at at ECALL ≡ Some call
+    pub answers_call : (at : Registers) → WereAtRequest machine p process.regs at → (call : ProcessCall) (turn : Turn) (new : Machine) → call_at at ECALL ≡ Some call
         → DoesCall p call process at machine turn new → (turn ≡ called_turn old p) × AreLike (wholes new) (after_called old p)
     answers_call at were call turn new is does = by_process (get old.processes p) refl
       where
@@ -184,10 +186,38 @@ module _ (p : ℕ) (machine : Machine) (process : declared.Process) (there : get
         by_process (Some was) here = called_here was here at were call turn new is does
         by_process None absent = absurd (gone absent)
 
-    pub answers_plain : (at : Registers) → WereAtRequest machine p process at → (turn : Turn) (new : Machine) → call_at at ECALL ≡ None
+    pub answers_plain : (at : Registers) → WereAtRequest machine p process.regs at → (turn : Turn) (new : Machine) → call_at at ECALL ≡ None
         → turn ≡ turn_asked (wholes machine) p → AreLike (wholes new) (after_asked (wholes machine) p) → (turn ≡ called_turn old p) × AreLike (wholes new) (after_called old p)
     answers_plain at were turn new is turn_is after_is = by_process (get old.processes p) refl
       where
         by_process : (o : Option Process) → get old.processes p ≡ o → (turn ≡ called_turn old p) × AreLike (wholes new) (after_called old p)
         by_process (Some was) here = plain_here was here at were turn new is turn_is after_is
         by_process None absent = absurd (gone absent)
+
+-- one that isn't allowed to speculate by itself
+pub answers_asked : (p : ℕ) (machine : Machine) (turn : Turn) (new : Machine) → turn ≡ turn_asked (wholes machine) p → AreLike (wholes new) (after_asked (wholes machine) p)
+    → AnswersRequest false p (wholes machine) turn (wholes new)
+answers_asked p machine turn new turn_is after_is old running came like =
+    let law = turn_law Asked old p running came in
+    let left = after_execution old p in (
+      turn_is ∙ like_asked p (wholes machine) left like ∙ sym law.turn_is,
+      subst (AreLike (wholes new)) (sym law.after_is) (like_chain (wholes new) (after_asked (wholes machine) p) (after_asked left p) after_is (like_after_asked p (wholes machine) left like)),
+    )
+
+-- what of others was never translated still wasn't, after a request
+none_after : (q p : ℕ) → (q ≡ p → ⊥) → (row : CallRow) (guest : Guest) → HasNone q guest.translations → HasNone q (row_after p row guest).translations
+none_after q p other row guest none = by_full (row_is_full row guest)
+  where
+    by_flush : (flushes : Bool) → HasNone q (row_translations p flushes guest.translations)
+    by_flush true = none_flushed q p guest.translations none
+    by_flush false = none
+
+    by_full : (b : Bool) → HasNone q (cond b guest (row_does p row guest)).translations
+    by_full true = none
+    by_full false = by_flush row.flushes
+
+pub none_after_row : (p : ℕ) (call : ProcessCall) (process : declared.Process) (at : Registers) (old : Machine) (turn : Turn) (new : Machine) → DoesCall p call process at old turn new
+    → KeepsUnseen p old new
+none_after_row p call process at old turn new does q other none =
+    let guest = guest_at_request old p process at in
+    subst (HasNone q) (sym does.after_is.translations) (none_after q p other (row_of p call guest.process) guest none)

@@ -1,7 +1,8 @@
-use Rattle.std.proofs.Common.{◌≡◌, ℕ, Bool, true, false, cond, sym, ap, subst, ◌∙◌, refl, Option, Some, None}
+use Rattle.std.proofs.Common.{◌≡◌, ℕ, ◌+◌, ◌-◌, ◌/◌, ◌%◌, ◌^◌, ◌<◌, Bool, true, false, cond, sym, ap, subst, ◌∙◌, refl, arith, Option, Some, None}
 use Rattle.std.specs.Prelude.{◌&&◌, nat_lt, Ok, Err}
 use Rattle.std.specs.Option.{is_some, option_map_or, unwrap_or}
 use Rattle.std.specs.FinMap.{get, insert}
+use Rattle.sizes.specs.declared.TheConstants.{PAGE_BYTES, PAGE_END}
 use Rattle.number_maps.specs.Keys.{by_key, get_other, get_same}
 use Rattle.ledger.specs.Alike.{AreAlike}
 use Rattle.ledger.specs.AlikeLaws.{alike_itself}
@@ -18,7 +19,7 @@ use Rattle.space_maps.specs.Spaces.{holds_space, space_in}
 use Rattle.speculation.specs.Speculated.{Commits, Discards, Starts}
 use Rattle.speculation.specs.declared.error.SpeculationError.{SpeculationError}
 use Rattle.speculation.specs.declared.error.SpeculationError.TheVariants as speculation
-use Rattle.rv_execute.specs.Registers.{Registers}
+use Rattle.rv_execute.specs.Registers.{Registers, next, with_pc}
 use Rattle.process_calls.specs.declared.calls.ProcessCall.{ProcessCall}
 use Rattle.process_calls.specs.declared.calls.ProcessCall.TheVariants.{Speculate, Commit, Discard}
 use Rattle.process_calls.specs.Calls.{gone_on, kept}
@@ -184,3 +185,10 @@ module _ (p : ℕ) (process : declared.Process) (at : Registers) (old : Machine)
 
   pub marked_by : (saved : SavedRegs) → process.saved ≡ Some saved → is_marked old p ≡ has_saved old p → is_marked old p ≡ true
   marked_by saved here agree = agree ∙ ap saved_of there ∙ ap is_some here
+
+-- The registers at a request: the pc stands 4 before the one behind it.
+pub back_at : (behind before : Registers) → behind ≡ next before → before.pc / PAGE_BYTES < PAGE_END → with_pc behind ((behind.pc + (2 ^ 64 - 4)) % 2 ^ 64) ≡ before
+back_at behind before is low =
+    let pc_is : (behind.pc + (2 ^ 64 - 4)) % 2 ^ 64 ≡ before.pc = omega (arith, ap (λ (r : Registers). r.pc) is, low) in
+    let x_is = ap (λ (r : Registers). r.x) is in
+    λ i. record { pc = pc_is i; x = x_is i }

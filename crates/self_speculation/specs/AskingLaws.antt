@@ -9,9 +9,11 @@ use Rattle.rv_decode.specs.Meaning.{meaning_by}
 use Rattle.rv_decode.specs.declared.instruction.Instr.{Instr}
 use Rattle.rv_execute.specs.declared.action.Action.{Action}
 use Rattle.rv_execute.specs.declared.action.Action.TheVariants as action
-use Rattle.rv_execute.specs.declared.outcome.Outcome.{Outcome}
+use Rattle.byteorder.specs.Endian.{little_bytes}
+use Rattle.rv_execute.specs.declared.action.Extension.{Extension}
+use Rattle.rv_execute.specs.declared.action.Size.{Size}
 use Rattle.rv_execute.specs.declared.outcome.Outcome.TheVariants.{Stepped, Asked, Fault, Full}
-use Rattle.rv_execute.specs.Calls.{Call, Fetch, fetch_at, load_at, store_at, word_at}
+use Rattle.rv_execute.specs.Calls.{Call, Fetch, Load, Store, fetch_at, load_at, store_at, word_at}
 use Rattle.rv_execute.specs.Execution.{Asks, Execution, Faults, InstructionTable, Steps, Upshot, action_by, after, completed, count_of, decoded_by, effect, execution_by, fault, fetch_effect_by, load_effect, outcome_by, store_effect}
 use Rattle.rv_execute.specs.Registers.{Registers, next, next_pc, with_pc, with_register}
 use Rattle.rv_mul.specs.Tables.{table_of}
@@ -36,22 +38,25 @@ module _ (regs : Registers) (memory : Memory) where
   either true x y h k = h
   either false x y h k = k
 
+  load_never : (o : Option ℕ) (address rd : ℕ) (size : Size) (extension : Extension) (calls : List Call) → (load_effect o address size extension rd regs memory calls).upshot ≡ Asks → ⊥
+  load_never None address rd size extension calls h = cc
+  load_never (Some at) address rd size extension calls h = cc
+
+  store_never : (o : Option ℕ) (address : ℕ) (bytes : List ℕ) (calls : List Call) → (store_effect o address bytes regs memory calls).upshot ≡ Asks → ⊥
+  store_never None address bytes calls h = cc
+  store_never (Some at) address bytes calls h = cc
+
   effect_asks : (a : Action) (rd : ℕ) → (effect a rd regs memory).upshot ≡ Asks → IsRequestAlone regs memory (effect a rd regs memory)
   effect_asks (action.Write value) rd is = cc
   effect_asks (action.Link target) rd is =
       absurd (either (target % 4 == 0) (completed (with_pc (with_register regs rd (next_pc regs)) target) memory []) (fault regs memory kind.Align target []) (λ h. cc) (λ h. cc) is)
   effect_asks (action.Goto target) rd is =
       absurd (either (target % 4 == 0) (completed (with_pc regs target) memory []) (fault regs memory kind.Align target []) (λ h. cc) (λ h. cc) is)
-  effect_asks (action.Load address size extension) rd is = absurd (by_denied (denied_at memory (load_at address (count_of size))) is)
-    where
-      by_denied : (o : Option ℕ) → (load_effect o address size extension rd regs memory _).upshot ≡ Asks → ⊥
-      by_denied None h = cc
-      by_denied (Some at) h = cc
-  effect_asks (action.Store address size value) rd is = absurd (by_denied (denied_at memory (store_at address (count_of size))) is)
-    where
-      by_denied : (o : Option ℕ) → (store_effect o address _ regs memory _).upshot ≡ Asks → ⊥
-      by_denied None h = cc
-      by_denied (Some at) h = cc
+  effect_asks (action.Load address size extension) rd is =
+      absurd (load_never (denied_at memory (load_at address (count_of size))) address rd size extension (Load address (count_of size) ∷ []) is)
+  effect_asks (action.Store address size value) rd is =
+      let bytes = little_bytes (count_of size) value in
+      absurd (store_never (denied_at memory (store_at address (count_of size))) address bytes (Store address bytes ∷ []) is)
   effect_asks action.Next rd is = cc
   effect_asks action.Ask rd is = record { behind = refl; kept = refl; calls = refl }
   effect_asks action.Stop rd is = cc

@@ -11,5 +11,3 @@ pub mod AskingLaws
 pub mod TakenLaws
 -- Laws of a process that is put.
 pub mod RequestLaws
--- Turns by a list of numbers.
-pub mod Played

@@ -36,6 +36,18 @@ places_pairs old new same = record {
   kept = λ q agree. same.marks q ∙ agree ∙ sym (same.saves q);
 }
 
+-- one after the other
+pub pairs_start : (machine : Machine) → KeepsPairs machine machine
+pairs_start machine = record { spaces = λ q. refl; awaiting = λ q. refl; processes = λ q. refl; kept = λ q agree. agree }
+
+pub pairs_then : (a b c : Machine) → KeepsPairs a b → KeepsPairs b c → KeepsPairs a c
+pairs_then a b c first second = record {
+  spaces = λ q. second.spaces q ∙ first.spaces q;
+  awaiting = λ q. second.awaiting q ∙ first.awaiting q;
+  processes = λ q. second.processes q ∙ first.processes q;
+  kept = λ q agree. second.kept q (first.kept q agree);
+}
+
 pub not_over : (limit needed : ℕ) → needed ≤ limit → nat_lt limit needed ≡ false
 not_over limit needed h = by_test (nat_lt limit needed) refl
   where

@@ -1,4 +1,4 @@
-use Rattle.std.specs.Prelude.{◌≡◌, ℕ, ◌/◌, true, IsSome}
+use Rattle.std.specs.Prelude.{◌≡◌, ℕ, ◌/◌, true, IsSome, Option, Some, None}
 use Rattle.std.specs.Option.{is_some}
 use Rattle.std.specs.FinMap.{get}
 use Rattle.sizes.specs.declared.TheConstants.{PAGE_BYTES}
@@ -7,6 +7,8 @@ use Rattle.space_maps.specs.Spaces.{page_in, space_in}
 use Rattle.ovl_io.specs.declared.turn.Turn.{Turn}
 use Rattle.rv_execute.specs.Registers.{Registers, next}
 use Rattle.process_calls.specs.declared.calls.ProcessCall.{ProcessCall}
+use Rattle.process_calls.specs.Calls.{call_at}
+use Rattle.self_speculation.specs.declared.TheConstants.{ECALL}
 use Rattle.machine_core.specs.Process.{Process}
 use Rattle.machine_core.specs.declared.process.Process as declared
 use Rattle.machine_core.specs.Machine.{AreLike, Machine, StaysBut, has_saved, has_space, is_marked, lists_of, spaces_of, unit_limit, whole_in, wholes}
@@ -47,12 +49,18 @@ DoesCall p call process registers old turn new =
     DoesRow p (row_of p call guest.process) guest old turn new
 
 -- the registers at a request, of which the page that its instruction was fetched from is there
-abbrev pub WereAtRequest : Machine → ℕ → declared.Process → Registers → Type 0
-WereAtRequest machine p process at =
-    (before : Registers) → process.regs ≡ next before → IsSome (page_in (spaces_of machine) p (before.pc / PAGE_BYTES)) → at ≡ before
+abbrev pub WereAtRequest : Machine → ℕ → Registers → Registers → Type 0
+WereAtRequest machine p behind at =
+    (before : Registers) → behind ≡ next before → IsSome (page_in (spaces_of machine) p (before.pc / PAGE_BYTES)) → at ≡ before
 
 -- there aren't units enough for a row: so many are needed, and so many there may be
 pub record IsFullRow (needed limit : ℕ) (row : CallRow) (guest : Guest) : Type 0 where
   pub needed_is : needed ≡ row_needs row guest
   pub limit_is : limit ≡ unit_limit guest.frames
   pub full : row_is_full row guest ≡ true
+
+-- what is answered to an ECALL: a request of the process's own speculation is done; nothing is done where it is none
+abbrev pub AnswersCall : ℕ → declared.Process → Machine → Option Turn → Machine → Type 0
+AnswersCall p process old (Some turn) new =
+    (at : Registers) × (call : ProcessCall) × WereAtRequest old p process.regs at × (call_at at ECALL ≡ Some call) × DoesCall p call process at old turn new
+AnswersCall p process old None new = (new ≡ old) × ((at : Registers) × WereAtRequest old p process.regs at × (call_at at ECALL ≡ None))

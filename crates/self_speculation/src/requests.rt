@@ -5,24 +5,24 @@ ghost use Rattle.std.specs.FinMap.{empty, get};
 ghost use Rattle.space_maps.specs.Spaces.{space_in};
 ghost use Rattle.machine_core.specs.Machine.{has_saved, has_space, is_marked, spaces_of};
 ghost use Rattle.self_speculation.specs.Called.{not_done, row_of};
-ghost use Rattle.self_speculation.specs.Requests.{DoesCall, DoesRow, IsFullRow, WereAtRequest, guest_at_request, whole_at};
+ghost use Rattle.self_speculation.specs.Requests.{AnswersCall, DoesCall, DoesRow, IsFullRow, WereAtRequest, guest_at_request, whole_at};
 
-use crate::NOT_DONE;
+use crate::{ECALL, NOT_DONE};
 use machine_core::{Machine, Process, SavedRegs};
 use ovl_io::Turn;
-use process_calls::{ProcessCall, gone_on, kept};
+use process_calls::{ProcessCall, call_at, gone_on, kept};
 use rv_execute::Regs;
 use speculation::{SpeculationError, commit, discard, start};
 
 /// The registers of a process at its request, whose execution led the pc behind it.
-pub(crate) fn registers_at(machine: &Machine, p: u16, process: Process) -> Regs
+fn registers_at(machine: &Machine, p: u16, behind: &Regs) -> Regs
     requires space { has_space machine.now p ≡ true }
-    ensures at { WereAtRequest machine.now p process result }
+    ensures at { WereAtRequest machine.now p behind.now result }
 {
     // it is asked for what it says of all pages: that they lie low
     let _overlaid = machine.memory().next_overlaid(p, 0);
-    let mut at = process.regs;
-    at.set_pc(process.regs.pc().wrapping_sub(4));
+    let mut at = *behind;
+    at.set_pc(behind.pc().wrapping_sub(4));
     at
 }
 
@@ -134,7 +134,7 @@ fn go_back(machine: &mut Machine, p: u16, process: Process, at: Regs, saved: Sav
 /// Does a request of process `p`, which runs and is there with its space, of which no page awaits, and of which registers and state are kept
 /// exactly where it is speculating. `at` are its registers at the request. Takes no memory. Costs what the command of the same name
 /// costs.
-pub(crate) fn do_call(
+fn do_call(
     machine: &mut Machine,
     p: u16,
     process: Process,
@@ -158,5 +158,21 @@ pub(crate) fn do_call(
             None => refuse(machine, p, process, at),
             Some(saved) => go_back(machine, p, process, at, saved),
         },
+    }
+}
+
+/// Does what process `p` asked for, whose execution led the pc behind an ECALL, where that is one of the three requests; and tells nothing, and does
+/// nothing, where it isn't.
+pub(crate) fn answer_call(machine: &mut Machine, p: u16, process: Process) -> Option<Turn>
+    requires there { get machine.old.processes p ≡ Some process }
+    requires space { has_space machine.old p ≡ true }
+    requires none_awaits { (space_in (spaces_of machine.old) p).awaiting ≡ empty }
+    requires kept { is_marked machine.old p ≡ has_saved machine.old p }
+    ensures answers { AnswersCall p process machine.old result machine.new }
+{
+    let at = registers_at(machine, p, &process.regs);
+    match call_at(&at, ECALL) {
+        Some(call) => Some(do_call(machine, p, process, at, call)),
+        None => None,
     }
 }

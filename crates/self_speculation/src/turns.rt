@@ -1,21 +1,16 @@
-//! What a process asked for, and turns: one at a time, and by a list.
+//! What a process asked for, and one turn.
 
 ghost use Rattle.std.specs.Prelude.{◌≡◌, true};
 ghost use Rattle.std.specs.FinMap.{empty};
 ghost use Rattle.space_maps.specs.Spaces.{space_in};
-ghost use Rattle.machine_core.specs.Machine.{AnswersAs, HaveSpaces, LeadsTo, StaysBut, has_saved, has_space, is_marked, is_running, spaces_of, wholes};
+ghost use Rattle.machine_core.specs.Machine.{AnswersAs, LeadsTo, StaysBut, has_saved, has_space, is_marked, is_running, spaces_of, wholes};
 ghost use Rattle.self_speculation.specs.Taken.{AnswersRequest, after_taken, taken_turn};
 ghost use Rattle.self_speculation.specs.Requests.{KeepsPairs, KeepsUnseen};
-ghost use Rattle.self_speculation.specs.Played.{AreOwnCalledTurns, HavePairs, after_number, run_over};
 
-use crate::requests::{do_call, registers_at};
+use crate::requests::answer_call;
 use machine_core::Machine;
 use ovl_io::Turn;
-use process_calls::call_at;
 use rv_execute::Outcome;
-
-/// The word of ECALL.
-const ECALL: u32 = 0x0000_0073;
 
 /// Does what a running process, whose space is there, asked for by ECALL, and answers what came of it. A process that may speculate by itself
 /// (`calls`) may ask for that; all else is what the machine does for every process. The ECALL was fetched and counted. Takes no memory.
@@ -32,14 +27,15 @@ pub fn answer(machine: &mut Machine, p: u16, calls: bool) -> Turn
     if !calls {
         return machine.answer(p);
     }
-    let process = match machine.process(p) {
-        Some(process) => *process,
+    match machine.process(p) {
+        Some(process) => {
+            let process = *process;
+            match answer_call(machine, p, process) {
+                Some(turn) => turn,
+                None => machine.answer(p),
+            }
+        }
         None => unreachable!(),
-    };
-    let at = registers_at(machine, p, process);
-    match call_at(&at, ECALL) {
-        Some(call) => do_call(machine, p, process, at, call),
-        None => machine.answer(p),
     }
 }
 
@@ -56,41 +52,10 @@ pub fn event(machine: &mut Machine, p: u16, calls: bool) -> Turn
     ensures others { StaysBut p machine.old machine.new }
     ensures pairs { KeepsPairs machine.old machine.new }
 {
-    match machine.execute_up_to(p, 1, None).1 {
+    match machine.execute(p) {
         Outcome::Stepped => Turn::Stepped,
         Outcome::Asked => answer(machine, p, calls),
         Outcome::Fault(kind, address) => Turn::Faulted(kind, address),
         Outcome::Full(units, limit) => Turn::Full(units, limit),
-    }
-}
-
-/// A turn of a number: one instruction where its process is running, and else nothing.
-fn turn(machine: &mut Machine, p: u16)
-    requires spaces { HaveSpaces machine.old }
-    requires pairs { HavePairs machine.old }
-    ensures stands { LeadsTo (after_number p) machine.old machine.new }
-    ensures spaces { HaveSpaces machine.new }
-    ensures pairs { HavePairs machine.new }
-{
-    if machine.is_running(p) {
-        let _ = event(machine, p, true);
-    }
-}
-
-/// Takes one turn of each number, in order, and passes over those that aren't running then; a process may speculate by itself. The space of
-/// each running process is there, and registers and state are kept of exactly those that are speculating. So each process is its own turns: what
-/// as many of its own as weren't answered Full make of it, with what is kept of it, whatever others did between. Takes no memory.
-pub fn play(machine: &mut Machine, turns: &[u16])
-    requires spaces { HaveSpaces machine.old }
-    requires pairs { HavePairs machine.old }
-    ensures stands { LeadsTo (run_over turns.now) machine.old machine.new }
-    ensures own { AreOwnCalledTurns turns.now (wholes machine.old) (wholes machine.new) }
-    ensures spaces { HaveSpaces machine.new }
-    ensures pairs { HavePairs machine.new }
-{
-    let mut i = 0;
-    'playing: while i < turns.len() {
-        turn(machine, turns[i]);
-        i += 1;
     }
 }

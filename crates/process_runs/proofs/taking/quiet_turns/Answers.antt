@@ -1,7 +1,8 @@
 use Rattle.std.proofs.Common.{[], ◌∙◌, refl, sym, subst, Some, None, inl, inr, arith}
 use Rattle.process_runs.specs.Turns.{EndsRun, left_of}
 use Rattle.machine_core.specs.Machine.{wholes}
-use Rattle.process_runs.specs.PlaceLaws.{free_start, free_then, own_kept, same_start, same_then, space_there}
+use Rattle.self_speculation.specs.RequestLaws.{pairs_start, pairs_then}
+use Rattle.process_runs.specs.PlaceLaws.{free_start, free_then, own_kept, space_there}
 use Rattle.process_runs.proofs.Rans.{WhyEnded, next_is, none_left, run_ended, said_none, said_then}
 use Rattle.process_runs.proofs.taking.quiet_turns.Goals as goal
 use Rattle.process_runs.proofs.taking.quiet_turns.Goals.{else-quiet-test, then-quiet-test+in-None+in-None-next, then-quiet-test+in-Some}
@@ -25,7 +26,7 @@ quiet-init c = record {
   fewer = omega arith;
   goes = c.requires.goes;
   asked = refl;
-  kept = same_start c.args.machine.now;
+  kept = pairs_start c.args.machine.now;
   free = free_start c.args.machine.now;
   spaces = c.requires.spaces;
   awaits = c.requires.awaits;
@@ -42,7 +43,7 @@ quiet-preserved c =
       fewer = omega (arith, c.quiet.invariant.fewer, done.ensures.fewer);
       goes = done.ensures.goes c.if-take_turns.false;
       asked = done.ensures.asked ∙ c.quiet.invariant.asked;
-      kept = same_then c.args.machine.now c.quiet.machine done.new.machine c.quiet.invariant.kept done.ensures.kept;
+      kept = pairs_then c.args.machine.now c.quiet.machine done.new.machine c.quiet.invariant.kept done.ensures.kept;
       free = free_then c.args.machine.now c.quiet.machine done.new.machine c.quiet.invariant.kept c.quiet.invariant.free done.ensures.free;
       spaces = own_kept c.quiet.machine done.new.machine c.quiet.invariant.spaces done.ensures.kept;
       awaits = λ q. done.ensures.kept.awaiting q ∙ c.quiet.invariant.awaits q;

@@ -1,8 +1,7 @@
 use Rattle.std.proofs.Common.{◌≡◌, ◌≤◌, [], None}
 use Rattle.machine_core.specs.Machine.{wholes}
-use Rattle.self_speculation.specs.Played.{HavePairs}
 use Rattle.self_speculation.specs.Requests.{KeepsPairs}
-use Rattle.process_runs.specs.Places.{KeepsFree, NoPageAwaits, OwnSpaces}
+use Rattle.process_runs.specs.Places.{HavePairs, KeepsFree, NoPageAwaits, OwnSpaces}
 use Rattle.process_runs.specs.Turns.{Speaks, lines_left}
 use Rattle.process_runs.proofs.taking.quiet_turns.Given as goal
 

@@ -7,8 +7,8 @@ use Rattle.breakpoints.specs.Breakpoints.{Breaks, addresses_of}
 use Rattle.machine_core.specs.Absent.{none_after_executions}
 use Rattle.machine_core.specs.Executions.{after_executions}
 use Rattle.process_runs.specs.Places.{KeepsFree}
-use Rattle.self_speculation.specs.RequestLaws.{places_pairs}
-use Rattle.process_runs.specs.PlaceLaws.{free_then, free_turns, same_then}
+use Rattle.self_speculation.specs.RequestLaws.{pairs_then, places_pairs}
+use Rattle.process_runs.specs.PlaceLaws.{free_then, free_turns}
 use Rattle.process_runs.proofs.Stretching.{all_taken, asked_runs, fits_left, goes_on, last_turn, no_line, says_last}
 use Rattle.process_runs.proofs.taking.take_turns.Goals as goal
 
@@ -130,4 +130,4 @@ returns-in-Stepped-clause-kept c = places_pairs c.args.machine.now c.execute_up_
 pub returns-clause-kept : goal.returns-clause-kept
 returns-clause-kept c =
     let done = c.execute_up_to-steps in
-    same_then c.args.machine.now done.new.machine c.end_stretch.new.machine (places_pairs c.args.machine.now done.new.machine done.ensures.places) c.end_stretch.ensures.kept
+    pairs_then c.args.machine.now done.new.machine c.end_stretch.new.machine (places_pairs c.args.machine.now done.new.machine done.ensures.places) c.end_stretch.ensures.kept

@@ -3,15 +3,11 @@ use Rattle.std.specs.Option.{option_map, option_map_or}
 use Rattle.std.specs.FinMap.{get}
 use Rattle.process_calls.specs.declared.calls.ProcessCall.{ProcessCall}
 use Rattle.machine_core.specs.Process.{Process}
-use Rattle.machine_core.specs.Machine.{Machine, Wholes, has_saved, is_marked, is_running}
+use Rattle.machine_core.specs.Machine.{Wholes, is_running}
 use Rattle.machine_core.specs.Turns.{Guest, guest_at, guest_refused, is_full}
 use Rattle.self_speculation.specs.Called.{after_called, call_of, called_step, row_is_full, row_of}
 
 -- Turns of several processes that may speculate by themselves, by a list of their numbers.
-
--- registers and state are kept of exactly the processes whose spaces are marked
-abbrev pub HavePairs : Machine → Type 0
-HavePairs machine = (q : ℕ) → is_marked machine q ≡ has_saved machine q
 
 -- the copying machine after a turn of a number; one that isn't running is passed over
 abbrev pub after_number : ℕ → Wholes → Wholes
