@@ -21,7 +21,9 @@ use Rattle.command_core.proofs.Keeping.{all_shown}
 use Rattle.command_core.proofs.Places.{free_same}
 use Rattle.command_core.specs.Looks.{BeginsStep, begun}
 use Rattle.process_runs.specs.LikeLaws.{like_ending, like_found, like_left, like_next, like_text}
-use Rattle.command_core.specs.Standing.{SessionAnswersAs, SessionStandsFor, TurnsAs, begun_step, ends_run, speaks, takes_turn}
+use Rattle.command_core.specs.Standing.{PlaysAs, SessionAnswersAs, SessionStandsFor, TurnsAs, begun_step, ends_run, speaks, takes_turn}
+use Rattle.process_runs.specs.Played.{run_over}
+use Rattle.process_runs.specs.PlayedLaws.{like_run}
 use Rattle.process_runs.specs.Turns.{EndsRun, InRun, Progress, Speaks, begun_alone, TakesTurn, found_before, left_of, ran_text, run_altered, run_counted, run_found}
 
 -- What holds of a session's own processes holds of those of each state that it stands for.
@@ -149,3 +151,8 @@ ends_as old new running after (stop, found, said) rest state stands =
         ),
       ),
     )
+
+pub plays_as : (old new : InSession) (turns : List ℕ) → AreLike new.state.wholes (run_over turns old.state.wholes) → KeepsRest old new → PlaysAs turns old new
+plays_as old new turns played rest state stands =
+    after_stands old new state (run_over turns state.wholes) rest stands
+    (like_chain new.state.wholes (run_over turns old.state.wholes) (run_over turns state.wholes) played (like_run turns old.state.wholes state.wholes stands.wholes))

@@ -3,12 +3,13 @@ use Rattle.std.specs.FinMap.{get}
 use Rattle.ovl_io.specs.declared.turn.Turn.{Turn}
 use Rattle.report_text.specs.declared.answer.Answer.{Answer}
 use Rattle.report_text.specs.declared.answer.Answer.TheVariants.{Memory}
-use Rattle.command_core.specs.State.{AreLikeStates, Registry, State, registry_of}
+use Rattle.command_core.specs.State.{AreLikeStates, Registry, State, registry_of, with_wholes}
 use Rattle.command_core.specs.Sessions.{InSession}
 use Rattle.command_core.specs.Rows.{Row, change_by, may_want_memory}
 use Rattle.command_core.specs.Giving.{ComesTo}
 use Rattle.report_text.specs.declared.answer.Code.{Code}
 use Rattle.command_core.specs.Looks.{begun}
+use Rattle.process_runs.specs.Played.{run_over}
 use Rattle.process_runs.specs.Turns.{EndsRun, InRun, Speaks, TakesTurn, by_turns, run_found}
 
 -- A session stands for a state of the copying machine where its processes and its checkpoints, memories included, and its frames are the
@@ -39,6 +40,10 @@ TurnsAs turns old new =
     (state : State) → SessionStandsFor old state
     → (after : State) × SessionStandsFor new after × (after.checkpoints ≡ state.checkpoints) × (after.breakpoints ≡ state.breakpoints)
     × turns state after
+
+-- turns by a list of numbers: the session stands for the state after them
+abbrev pub PlaysAs : List ℕ → InSession → InSession → Type 0
+PlaysAs turns old new = (state : State) → SessionStandsFor old state → SessionStandsFor new (with_wholes (run_over turns state.wholes) state)
 
 abbrev pub takes_turn : InRun → Option (ℕ × Turn) → InRun → State → State → Type 0
 takes_turn running turn after_run state after = TakesTurn state.breakpoints state.wholes running turn after.wholes after_run

@@ -14,8 +14,10 @@ ghost use Rattle.command_core.specs.Changes.{CanBeTold, TakesText, answer_of, as
 ghost use Rattle.command_core.specs.Commands.{RunsLoaded};
 ghost use Rattle.command_core.specs.Looks.{BeginsStep, CanRead, LooksAt, LooksAtCheckpoint, NextProcess, ReadsBytes, counts_of, look_of, looked_at};
 ghost use Rattle.command_core.specs.Ample.{IsAmplyDone};
-ghost use Rattle.command_core.specs.Standing.{SessionAnswersAs, GivesAs, HoldsFor, SessionStandsFor, TurnsAs, begun_run, begun_step, ends_run, speaks, takes_turn};
+ghost use Rattle.command_core.specs.Standing.{SessionAnswersAs, GivesAs, HoldsFor, PlaysAs, SessionStandsFor, TurnsAs, begun_run, begun_step, ends_run, speaks, takes_turn};
 ghost use Rattle.std.specs.FinMap.{get};
+ghost use Rattle.machine_core.specs.Machine.{AreLike};
+ghost use Rattle.process_runs.specs.Played.{AreOwnCalledTurns, run_over};
 ghost use Rattle.process_runs.specs.Turns.{IsTurnLine, begun_by, lines_left, run_found};
 
 use crate::assembling::not_assembled;
@@ -31,7 +33,7 @@ use elf_loader::{ElfError, read_image};
 use free_numbers::FreeNumbers;
 use machine_core::{Machine, SpaceError};
 use ovl_io::{Bytes, ProcessState, Turn};
-use process_runs::{Order, Running, begin, next_turn, turns_to_line};
+use process_runs::{Order, Running, begin, next_turn, play, turns_to_line};
 use report_text::{Answer, Code, Line};
 use round_robin::RoundRobin;
 use rv_asm::assemble;
@@ -571,6 +573,18 @@ impl Session {
         ensures others { KeepsRest self.old self.new }
     {
         turns_to_line(&mut self.machine, &self.breakpoints, running, line)
+    }
+
+    /// Takes one turn of each number, in order, and passes over those that aren't running then. Processes may speculate by themselves, whatever
+    /// `set_calls` said. So each process is its own turns: what as many of its own as weren't answered Full make of it, with what is kept of it,
+    /// whatever others did between. Takes no memory.
+    pub fn play_calls(&mut self, turns: &[u16])
+        ensures plays { AreLike self.new.state.wholes (run_over turns.now self.old.state.wholes) }
+        ensures own { AreOwnCalledTurns turns.now self.old.state.wholes self.new.state.wholes }
+        ensures stands { PlaysAs turns.now self.old self.new }
+        ensures others { KeepsRest self.old self.new }
+    {
+        play(&mut self.machine, turns);
     }
 
     /// A process, by its number; refused where there is none.

@@ -32,7 +32,7 @@ order_none p (Alone q) = refl
 pub took_none : (p : ℕ) (run : Progress) → run_took 0 p run ≡ run
 took_none p run =
     let same : run.taken + 0 ≡ run.taken = omega arith in
-    λ i. record { order = order_none p run.order i; turns = run.turns; taken = same i; last = run.last }
+    λ i. record { order = order_none p run.order i; calls = run.calls; turns = run.turns; taken = same i; last = run.last }
 
 order_first : (n p : ℕ) (order : Order) → order_took (n + 1) p order ≡ order_took n p (order_after p order)
 order_first n p (ByTurns turns) =
@@ -54,7 +54,7 @@ last_first n p last = last_more n p last ∙ sym (last_over n p)
 pub took_first : (n p : ℕ) (run : Progress) → run_took (n + 1) p run ≡ run_took n p (run_after p run)
 took_first n p run =
     let same : run.taken + (n + 1) ≡ run.taken + 1 + n = omega arith in
-    λ i. record { order = order_first n p run.order i; turns = run.turns; taken = same i; last = last_first n p run.last i }
+    λ i. record { order = order_first n p run.order i; calls = run.calls; turns = run.turns; taken = same i; last = last_first n p run.last i }
 
 -- what is left after one of them
 left_by : (n p : ℕ) (order : Order) (turns taken : ℕ) → n + 1 ≤ order_left p order (turns - taken) → n ≤ order_left p (order_after p order) (turns - (taken + 1))

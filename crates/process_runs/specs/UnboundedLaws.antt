@@ -60,7 +60,28 @@ module _ (state : Wholes) (p : ℕ) where
       (step_fits state.extension p process)
       (ap (λ b. (with_guest state p (cond b (guest_refused p guest) (guest_stepped p guest))).processes) is)
 
-  -- one that makes a request of its own, or none
+  -- one that makes a request of its own
+  by_units : (process : Process) (call : ProcessCall) → call_of state.extension process ≡ Some call
+      → (full : Bool) → row_is_full (row_of p call process) (guest_refused p (guest_of state process)) ≡ full → Found true state p (Some process)
+  by_units process call is true full =
+      let fetched = guest_refused p (guest_of state process) in
+      let row = row_of p call process in
+      FullThere (row_needs row fetched) (unit_limit state.frames)
+      (ap (λ (o : Option ProcessCall). turn_by p o (guest_of state process)) is
+      ∙ ap (λ b. cond b (turn.Full (row_needs row fetched) (unit_limit state.frames)) turn.Stepped) full)
+  by_units process call is false enough =
+      let fetched = guest_refused p (guest_of state process) in
+      let row = row_of p call process in
+      StepThere
+      (ap (λ (o : Option ProcessCall). turn_by p o (guest_of state process)) is
+      ∙ ap (λ b. cond b (turn.Full (row_needs row fetched) (unit_limit state.frames)) turn.Stepped) enough
+      ∙ sym (ap (step_turn_by state.extension p process) is))
+      (ap is_full_turn (ap (step_turn_by state.extension p process) is))
+      (ap (λ (o : Option ProcessCall). (with_guest state p (after_by p o (guest_of state process))).processes) is
+      ∙ ap (λ b. insert state.processes p (cond b fetched (row_does p row fetched)).process) enough
+      ∙ sym (ap (λ (o : Option ProcessCall). insert state.processes p (step_after_by state.extension p process o)) is))
+
+  -- one that may make one, or makes none
   by_call : (process : Process) (o : Option ProcessCall) → call_of state.extension process ≡ o → Found true state p (Some process)
   by_call process None is = plain (by_full process (is_full p (guest_of state process)) refl)
     where
@@ -71,26 +92,7 @@ module _ (state : Wholes) (p : ℕ) where
           (ap is_full_turn (ap (step_turn_by state.extension p process) is) ∙ fits)
           (ap (λ (o : Option ProcessCall). (with_guest state p (after_by p o (guest_of state process))).processes) is ∙ after
           ∙ sym (ap (λ (o : Option ProcessCall). insert state.processes p (step_after_by state.extension p process o)) is))
-  by_call process (Some call) is = by_units (row_is_full row fetched) refl
-    where
-      abbrev fetched : Guest
-      fetched = guest_refused p (guest_of state process)
-
-      abbrev row : CallRow
-      row = row_of p call process
-
-      by_units : (full : Bool) → row_is_full row fetched ≡ full → Found true state p (Some process)
-      by_units true full = FullThere (row_needs row fetched) (unit_limit state.frames)
-          (ap (λ (o : Option ProcessCall). turn_by p o (guest_of state process)) is
-          ∙ ap (λ b. cond b (turn.Full (row_needs row fetched) (unit_limit state.frames)) turn.Stepped) full)
-      by_units false enough = StepThere
-          (ap (λ (o : Option ProcessCall). turn_by p o (guest_of state process)) is
-          ∙ ap (λ b. cond b (turn.Full (row_needs row fetched) (unit_limit state.frames)) turn.Stepped) enough
-          ∙ sym (ap (step_turn_by state.extension p process) is))
-          (ap is_full_turn (ap (step_turn_by state.extension p process) is))
-          (ap (λ (o : Option ProcessCall). (with_guest state p (after_by p o (guest_of state process))).processes) is
-          ∙ ap (λ b. insert state.processes p (cond b fetched (row_does p row fetched)).process) enough
-          ∙ sym (ap (λ (o : Option ProcessCall). insert state.processes p (step_after_by state.extension p process o)) is))
+  by_call process (Some call) is = by_units process call is (row_is_full (row_of p call process) (guest_refused p (guest_of state process))) refl
 
   by_process : (calls : Bool) (o : Option Process) → Found calls state p o
   by_process false None = StepThere refl refl refl

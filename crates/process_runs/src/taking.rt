@@ -52,6 +52,7 @@ fn answer_request(machine: &mut Machine, p: u16, calls: bool) -> Turn
     requires none_awaits { (space_in (spaces_of machine.old) p).awaiting ≡ empty }
     requires pairs { is_marked machine.old p ≡ has_saved machine.old p }
     ensures answers { AnswersRequest calls p (wholes machine.old) result (wholes machine.new) }
+    ensures port { HasPort result }
     ensures kept { KeepsPairs machine.old machine.new }
     ensures free { KeepsFree machine.old machine.new }
 {

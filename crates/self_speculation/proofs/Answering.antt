@@ -23,14 +23,14 @@ use Rattle.process_calls.specs.declared.calls.ProcessCall.{ProcessCall}
 use Rattle.process_calls.specs.Calls.{call_at, numbered}
 use Rattle.machine_core.specs.Process.{Process, runs}
 use Rattle.machine_core.specs.declared.process.Process as declared
-use Rattle.machine_core.specs.Machine.{AreLike, Machine, Processes, Wholes, is_running, lists_of, spaces_of, whole_in, wholes}
+use Rattle.machine_core.specs.Machine.{AreLike, Machine, Processes, Wholes, is_running, lists_of, spaces_of, unit_limit, whole_in, wholes}
 use Rattle.machine_core.specs.Turns.{AreLikeGuests, Guest, after_asked, after_execution, after_turn, came_to, executed, execution_of, guest_after, guest_at, guest_of, guest_refused, translations_executed, turn_asked, turn_in, turn_of, with_guest}
 use Rattle.machine_core.specs.Laws.{IsRequest, like_after_asked, like_asked, like_chain, processes_at, turn_law}
 use Rattle.self_speculation.specs.declared.TheConstants.{ECALL}
-use Rattle.self_speculation.specs.Called.{CallRow, after_by, after_called, call_by, call_of, called_in, called_turn, guest_called, row_after, row_does, row_is_full, row_of, row_translations, row_turn, turn_by}
+use Rattle.self_speculation.specs.Called.{CallRow, after_by, after_called, call_by, call_of, called_in, called_turn, guest_called, row_after, row_does, row_is_full, row_needs, row_of, row_translations, row_turn, turn_by}
 use Rattle.self_speculation.specs.Taken.{AnswersRequest}
 use Rattle.self_speculation.specs.CalledLaws.{like_row_after, like_row_turn}
-use Rattle.self_speculation.specs.Requests.{DoesCall, KeepsUnseen, WereAtRequest, guest_at_request, whole_at}
+use Rattle.self_speculation.specs.Requests.{DoesCall, IsQuietTurn, KeepsUnseen, WereAtRequest, guest_at_request, whole_at}
 use Rattle.self_speculation.specs.AskingLaws.{asks, at_request, executed_is}
 
 -- A request that is answered, of each state in which it was made.
@@ -221,3 +221,15 @@ pub none_after_row : (p : ℕ) (call : ProcessCall) (process : declared.Process)
 none_after_row p call process at old turn new does q other none =
     let guest = guest_at_request old p process at in
     subst (HasNone q) (sym does.after_is.translations) (none_after q p other (row_of p call guest.process) guest none)
+
+-- a request of its own is a quiet turn
+quiet_row : (row : CallRow) (guest : Guest) → IsQuietTurn (row_turn row guest)
+quiet_row row guest = by_full (row_is_full row guest)
+  where
+    by_full : (b : Bool) → IsQuietTurn (cond b (turn.Full (row_needs row guest) (unit_limit guest.frames)) turn.Stepped)
+    by_full true = tt
+    by_full false = tt
+
+pub quiet_call : (p : ℕ) (call : ProcessCall) (process : declared.Process) (at : Registers) (old : Machine) (t : Turn) (new : Machine) → DoesCall p call process at old t new → IsQuietTurn t
+quiet_call p call process at old t new does =
+    let guest = guest_at_request old p process at in subst IsQuietTurn (sym does.turn_is) (quiet_row (row_of p call guest.process) guest)

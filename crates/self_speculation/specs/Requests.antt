@@ -1,10 +1,11 @@
-use Rattle.std.specs.Prelude.{◌≡◌, ℕ, ◌/◌, true, IsSome, Option, Some, None}
+use Rattle.std.specs.Prelude.{◌≡◌, ℕ, ◌/◌, ◌⊎◌, true, IsSome, Option, Some, None}
 use Rattle.std.specs.Option.{is_some}
 use Rattle.std.specs.FinMap.{get}
 use Rattle.sizes.specs.declared.TheConstants.{PAGE_BYTES}
 use Rattle.translation_cache.specs.Absent.{HasNone}
 use Rattle.space_maps.specs.Spaces.{page_in, space_in}
 use Rattle.ovl_io.specs.declared.turn.Turn.{Turn}
+use Rattle.ovl_io.specs.declared.turn.Turn.TheVariants as turn
 use Rattle.rv_execute.specs.Registers.{Registers, next}
 use Rattle.process_calls.specs.declared.calls.ProcessCall.{ProcessCall}
 use Rattle.process_calls.specs.Calls.{call_at}
@@ -12,7 +13,7 @@ use Rattle.self_speculation.specs.declared.TheConstants.{ECALL}
 use Rattle.machine_core.specs.Process.{Process}
 use Rattle.machine_core.specs.declared.process.Process as declared
 use Rattle.machine_core.specs.Machine.{AreLike, Machine, StaysBut, has_saved, has_space, is_marked, lists_of, spaces_of, unit_limit, whole_in, wholes}
-use Rattle.machine_core.specs.Turns.{Guest, guest_of, with_guest}
+use Rattle.machine_core.specs.Turns.{Guest, guest_of, turn_asked, with_guest}
 use Rattle.self_speculation.specs.Called.{CallRow, row_after, row_is_full, row_needs, row_of, row_turn}
 
 -- What a machine does at a request.
@@ -28,6 +29,18 @@ pub record KeepsPairs (old new : Machine) : Type 0 where
 -- what of another space was never translated still wasn't
 abbrev pub KeepsUnseen : ℕ → Machine → Machine → Type 0
 KeepsUnseen p old new = (q : ℕ) → (q ≡ p → ⊥) → HasNone q (lists_of old) → HasNone q (lists_of new)
+
+-- a turn that writes nothing and ends no process
+abbrev pub IsQuietTurn : Turn → Type 0
+IsQuietTurn turn.Stepped = Unit {0}
+IsQuietTurn (turn.Full units limit) = Unit {0}
+IsQuietTurn (turn.Wrote written) = ⊥
+IsQuietTurn (turn.Exited code) = ⊥
+IsQuietTurn (turn.Faulted kind address) = ⊥
+
+-- what comes of an ECALL: what comes of it for every process, or a quiet turn
+abbrev pub IsAnswer : ℕ → Machine → Turn → Type 0
+IsAnswer p machine came = (came ≡ turn_asked (wholes machine) p) ⊎ IsQuietTurn came
 
 -- a process in its place, with the registers that it had at its request, whose fetch was counted
 abbrev pub whole_at : Machine → ℕ → declared.Process → Registers → Process

@@ -1,7 +1,7 @@
-use Rattle.std.proofs.Common.{◌≡◌, ℕ, true, None, [], refl, ap, sym, ◌∙◌, arith}
+use Rattle.std.proofs.Common.{◌≡◌, ℕ, true, None, [], refl, ap, subst, sym, ◌∙◌, arith}
 use Rattle.machine_core.specs.Machine.{AreLike, Machine, StaysBut, is_running, wholes}
 use Rattle.report_text.specs.Answers.{turn_text}
-use Rattle.process_runs.specs.Turns.{InRun, run_counted, run_took}
+use Rattle.process_runs.specs.Turns.{FinishesTurn, InRun, run_counted, run_took}
 use Rattle.process_runs.proofs.Rans.{fewer_counted, fewer_left, none_stopped, speaks_by}
 use Rattle.breakpoints.specs.Breakpoints.{Breaks, addresses_of}
 use Rattle.machine_core.specs.Absent.{none_after_executions}
@@ -93,7 +93,8 @@ returns-clause-says c spoke =
     speaks_by c.args.breakpoints.now (wholes c.args.machine.now) (wholes end.new.machine) c.args.running.now c.end_stretch.new.running
     (run_counted ends.turn c.args.p (run_took done.result.0 c.args.p c.args.running.now.run)) end.new.line.items (turn_text c.args.p ends.turn) c.requires.goes
     (c.end_stretch.ensures.ends.counted ∙ ap (λ (r : InRun). run_counted ends.turn c.args.p r.run) c.took_turns.ensures.took) c.end_stretch.ensures.ends.text
-    (says_last c.args.breakpoints.now (wholes c.args.machine.now) c.args.p done.result.0 c.args.running.now.run done.result.1 (wholes done.new.machine) (wholes end.new.machine) ends.turn last ends.finished)
+    (says_last c.args.breakpoints.now (wholes c.args.machine.now) c.args.p done.result.0 c.args.running.now.run done.result.1 (wholes done.new.machine) (wholes end.new.machine) ends.turn last
+    (subst (λ calls. FinishesTurn calls c.args.p done.result.1 (wholes done.new.machine) ends.turn (wholes end.new.machine)) (ap (λ (r : InRun). r.run.calls) c.took_turns.ensures.took) ends.finished))
 
 pub returns-clause-one : goal.returns-clause-one
 returns-clause-one c spoke = (c.args.p, c.end_stretch.ensures.ends.turn, sym c.end_stretch.ensures.ends.has ∙ spoke, c.end_stretch.ensures.ends.text)
@@ -108,7 +109,8 @@ returns-clause-quiet c silent =
     speaks_by c.args.breakpoints.now (wholes c.args.machine.now) (wholes end.new.machine) c.args.running.now c.end_stretch.new.running
     (run_counted ends.turn c.args.p (run_took done.result.0 c.args.p c.args.running.now.run)) [] (turn_text c.args.p ends.turn) c.requires.goes
     (c.end_stretch.ensures.ends.counted ∙ ap (λ (r : InRun). run_counted ends.turn c.args.p r.run) c.took_turns.ensures.took) (no_line c.args.p ends.turn (sym c.end_stretch.ensures.ends.has ∙ silent))
-    (says_last c.args.breakpoints.now (wholes c.args.machine.now) c.args.p done.result.0 c.args.running.now.run done.result.1 (wholes done.new.machine) (wholes end.new.machine) ends.turn last ends.finished)
+    (says_last c.args.breakpoints.now (wholes c.args.machine.now) c.args.p done.result.0 c.args.running.now.run done.result.1 (wholes done.new.machine) (wholes end.new.machine) ends.turn last
+    (subst (λ calls. FinishesTurn calls c.args.p done.result.1 (wholes done.new.machine) ends.turn (wholes end.new.machine)) (ap (λ (r : InRun). r.run.calls) c.took_turns.ensures.took) ends.finished))
 
 pub returns-clause-fewer : goal.returns-clause-fewer
 returns-clause-fewer c =

@@ -1,10 +1,10 @@
-use Rattle.std.proofs.Common.{◌≡◌, ℕ, Bool, true, false, subst, sym, ap, ◌∙◌}
+use Rattle.std.proofs.Common.{◌≡◌, ℕ, Bool, true, false, subst, sym, ap, ◌∙◌, inl, inr}
 use Rattle.translation_cache.specs.Absent.{HasNone}
 use Rattle.machine_core.specs.Machine.{AreLike, Machine, wholes}
 use Rattle.machine_core.specs.Absent.{none_after_asked}
 use Rattle.machine_core.specs.Laws.{like_itself}
 use Rattle.self_speculation.specs.Taken.{AnswersRequest}
-use Rattle.self_speculation.proofs.Answering.{answers_asked, answers_call, answers_plain, none_after_row}
+use Rattle.self_speculation.proofs.Answering.{answers_asked, answers_call, answers_plain, none_after_row, quiet_call}
 use Rattle.self_speculation.proofs.turns.answer.Goals as goal
 
 pub returns-then-not-calls-clause-answers : goal.returns-then-not-calls-clause-answers
@@ -18,6 +18,20 @@ pub returns-then-not-calls-clause-unseen : goal.returns-then-not-calls-clause-un
 returns-then-not-calls-clause-unseen c q other none =
     let old = wholes c.args.machine.now in
     subst (HasNone q) (sym (c.answer.ensures.stands old (like_itself old)).translations) (none_after_asked q c.args.p other old none)
+
+pub returns-then-not-calls-clause-came : goal.returns-then-not-calls-clause-came
+returns-then-not-calls-clause-came c = let old = wholes c.args.machine.now in inl (c.answer.ensures.answers old (like_itself old))
+
+pub returns-in-Some-answer_call-clause-came : goal.returns-in-Some-answer_call-clause-came
+returns-in-Some-answer_call-clause-came c =
+    let (at, call, were, is, does) = c.in-Some-answer_call.ensures.answers in
+    inr (quiet_call c.args.p call c.in-Some.process.now at c.args.machine.now c.in-Some-answer_call.turn c.answer_call.new.machine does)
+
+pub returns-in-None-answer_call-clause-came : goal.returns-in-None-answer_call-clause-came
+returns-in-None-answer_call-clause-came c =
+    let (same, (at, were, is)) = c.in-None-answer_call.ensures.answers in
+    let old = wholes c.args.machine.now in
+    inl (c.answer-in-None-answer_call.ensures.answers old (subst (λ (m : Machine). AreLike (wholes m) old) (sym same) (like_itself old)))
 
 pub returns-in-Some-answer_call-clause-answers : goal.returns-in-Some-answer_call-clause-answers
 returns-in-Some-answer_call-clause-answers c =
