@@ -1,4 +1,4 @@
-use Rattle.std.specs.Prelude.{◌≡◌, ℕ, ◌+◌, nat_le, List, [], ◌∷◌, if◌then◌else◌, slice_get, Option, Some, None, Result, Ok, Err}
+use Rattle.std.specs.Prelude.{◌≡◌, ℕ, ◌+◌, nat_le, Bool, List, [], ◌∷◌, if◌then◌else◌, slice_get, Option, Some, None, Result, Ok, Err}
 use Rattle.std.specs.List.{filter}
 use Rattle.std.specs.FinMap.{entries, get, len}
 use Rattle.ledger.specs.Units.{own_lines, units}
@@ -54,7 +54,7 @@ abbrev pub begun : Breaks → Wholes → Bool → ℕ → ℕ → Option Process
 begun breaks state calls p turns None = Err NoProcess
 begun breaks state calls p turns (Some process) = if runs process.state then Ok (run_found breaks state (begun_alone p calls turns)) else Err Ended
 
-abbrev pub BeginsStep : Breaks → Wholes → ℕ → ℕ → Result InRun Code → Type 0
+abbrev pub BeginsStep : Breaks → Wholes → Bool → ℕ → ℕ → Result InRun Code → Type 0
 BeginsStep breaks state calls p turns result = result ≡ begun breaks state calls p turns (get state.processes p)
 
 -- n bytes of a process from an address on are looked at, whatever the permissions: refused at the first whose page isn't there
