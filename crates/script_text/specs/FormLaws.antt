@@ -71,7 +71,7 @@ one_or_each (w ∷ []) command is = behind_one (process_word w) _ (λ p. refl)
 one_or_each (w ∷ x ∷ []) command is = behind_one (process_word w) _ (λ p. behind_one (all_word x) _ (λ all. refl))
 one_or_each (w ∷ x ∷ y ∷ []) command is =
     let none : four_words process_word address_word process_word address_word Dedup (w ∷ x ∷ y ∷ []) ≡ None =
-        behind_one (process_word w) _ (λ p. behind_one (address_word x) _ (λ a. behind_one (process_word y) _ (λ q. refl))) in
+    behind_one (process_word w) _ (λ p. behind_one (address_word x) _ (λ a. behind_one (process_word y) _ (λ q. refl))) in
     cc
 one_or_each (w ∷ x ∷ y ∷ z ∷ words) command is =
     behind_one (process_word w) _ (λ p. behind_one (all_word x) _ (λ all. behind_one (process_word y) _ (λ q. refl)))
