@@ -11,6 +11,7 @@
 //! - `checkpoints`: what is kept of them, by name
 //! - `process_changes`: changes of one process that is there: speculation, promotion, pages and registers
 //! - `mapping`: pages that are mapped, and that are given up
+//! - `dedup`: pages that are put on those of another process
 //! - `poking`: bytes that are stored
 //! - `reading`: bytes that are looked at
 //! - `turns`: a run in progress
@@ -19,6 +20,7 @@
 
 mod assembling;
 mod checkpoints;
+mod dedup;
 mod forking;
 mod mapping;
 mod modes;

@@ -4,9 +4,9 @@ ghost use Rattle.script_text.specs.Given.{IsGiven, asks};
 ghost use Rattle.script_text.specs.declared.TheConstants.{MOST_WORDS};
 ghost use Rattle.sizes.specs.declared.TheConstants.{MOST_FILE_BYTES};
 ghost use Rattle.report_text.specs.Answers.{HasAnswerLine, answer_text};
-ghost use Rattle.command_core.specs.Changes.{CanBeTold};
+ghost use Rattle.command_core.specs.Changes.{CanBeTold, row_in};
 ghost use Rattle.command_core.specs.State.{registry_of};
-ghost use Rattle.command_core.specs.Commands.{RunsLoaded, asm_told, change_told, checkpoints_text, disasm_done, dump_done, exec_done, exec_turns, list_text, load_told, performed_in, processes_text, registers_text, regs_done, rules, run_done, stats_text, step_done, takes_left, tells_exec, register_value};
+ghost use Rattle.command_core.specs.Commands.{RunsLoaded, asm_told, checkpoints_text, disasm_done, dump_done, exec_done, exec_turns, list_text, load_told, performed_in, processes_text, registers_text, regs_done, row_told, rules, run_done, stats_text, step_done, takes_left, tells_exec, register_value};
 ghost use Rattle.overlay_top.specs.Sending.{SendsText};
 ghost use Rattle.overlay_top.specs.Printing.{view_text};
 ghost use Rattle.overlay_top.specs.Running.{DoesCommand, TakesOn, TellsAnswer};
@@ -112,6 +112,7 @@ fn turns_of_loaded<K: Sink>(
         Answer::Done => Ok(()),
         Answer::Forked(_, _) => Ok(()),
         Answer::Saved(_, _, _) => Ok(()),
+        Answer::Shared(_) => Ok(()),
         Answer::Refused(_) => Ok(()),
         Answer::Full(_, _) => Ok(()),
         Answer::Memory => Ok(()),
@@ -197,7 +198,8 @@ fn change<K: Sink>(
     requires asks { asks command.now ≡ None }
     requires given { IsGiven command.now }
     ensures does { DoesCommand K.Sink report.old.sink.now report.new.sink.now
-        (change_told rules [] command.now session.old.state) session.old session.new result }
+        (row_told rules (row_in [] command.now session.old.state) session.old.state)
+        session.old session.new result }
     ensures same { report.new.sink.ghost_name ≡ report.old.sink.ghost_name }
 {
     let answer = session.change(command);
@@ -417,6 +419,8 @@ pub(crate) fn do_command<K: Sink>(
         | Command::Discard(_)
         | Command::Promote(_, _)
         | Command::PromoteAll(_)
+        | Command::Dedup(_, _, _, _)
+        | Command::DedupAll(_, _)
         | Command::Compact
         | Command::Map(_, _, _, _)
         | Command::Unmap(_, _, _)
