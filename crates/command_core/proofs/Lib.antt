@@ -13,6 +13,7 @@ pub mod Copies
 pub mod Forkings
 pub mod Savings
 pub mod Speculating
+pub mod Deduplicating
 pub mod Pages
 pub mod Registers
 pub mod Debugging

@@ -22,7 +22,8 @@ use Rattle.script_text.specs.Given.{asks}
 use Rattle.command_core.specs.State.{Checkpoint, Registry, State, registry_of, with_wholes}
 use Rattle.command_core.specs.Sessions.{InSession}
 use Rattle.command_core.specs.Rows.{Changed, Row, change_by, may_want_memory, refuses}
-use Rattle.command_core.specs.Changes.{asm_row, change_row, load_row}
+use Rattle.command_core.specs.Changes.{LedgerTold, TellsCounts, TellsDedup, TellsDedupAll, asm_row, change_row, load_row}
+use Rattle.command_core.specs.Deduplication.{dedup_all_row, dedup_row}
 use Rattle.command_core.specs.Looks.{counts_of}
 use Rattle.process_runs.specs.Turns.{InRun, Progress, begun_alone, by_turns, left_of, ran_from, ran_text}
 
@@ -65,7 +66,7 @@ pub record Performed (S : Type 0) : Type 0 where
   pub wants_memory : Bool
 
 -- By which rules a machine does commands: what is registered in it; what a row comes to, and whether that may want memory; turns; and
--- what only the ledger of the copying machine can tell, of which another machine knows no more than the line.
+-- what only the ledger of the copying machine can tell, of which another machine knows no more than the line: it leaves what is registered.
 pub record Rules (S : Type 0) : Type 0 where
   pub registry : S → Registry
   pub change : Row → S → Changed S
@@ -108,6 +109,15 @@ stats_text state = counts_text (counts_of state.wholes)
 
 abbrev pub stats_done : State → Performed State
 stats_done state = text_printed false (stats_text state) state
+
+-- what is told by the ledger: the counts are printed, and a change is done by its row, and wants no memory
+abbrev pub shares_done : (State → Row) → State → Performed State
+shares_done row state = told false (change_by (row state) state)
+
+abbrev pub ledger_done : LedgerTold → State → Performed State
+ledger_done TellsCounts = stats_done
+ledger_done (TellsDedup p address q other) = shares_done (dedup_row p address q other)
+ledger_done (TellsDedupAll p q) = shares_done (dedup_all_row p q)
 
 abbrev pub rules : Rules State
 rules = record { registry = registry_of; change = change_by; wants = may_want_memory; turns = takes_turns; by_ledger = λ done. done }
@@ -255,7 +265,9 @@ module _ {S : Type 0} (by : Rules S) where
   performed_by modes file (Run turns) = run_done modes.quantum modes.calls turns
   performed_by modes file (Step p turns) = step_done modes.calls p turns
   performed_by modes file command.List = list_done
-  performed_by modes file command.Stats = by.by_ledger stats_done
+  performed_by modes file command.Stats = by.by_ledger (ledger_done TellsCounts)
+  performed_by modes file (command.Dedup p address q other) = by.by_ledger (ledger_done (TellsDedup p address q other))
+  performed_by modes file (command.DedupAll p q) = by.by_ledger (ledger_done (TellsDedupAll p q))
   performed_by modes file (command.Regs p) = regs_done p
   performed_by modes file (command.Dump p address count) = dump_done p address count
   performed_by modes file (command.Disasm p address words) = disasm_done modes.extension p address words

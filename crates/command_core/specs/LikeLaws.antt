@@ -15,7 +15,7 @@ use Rattle.machine_core.specs.Turns.{after_turn, turn_of}
 use Rattle.machine_core.specs.Laws.{like_after_turn, like_chain, like_itself, like_running, like_turn}
 use Rattle.round_robin.specs.Turns.{next_number}
 use Rattle.report_text.specs.declared.answer.Answer.{Answer}
-use Rattle.report_text.specs.declared.answer.Answer.TheVariants.{Done, Loaded, Forked, Saved, Refused, Full, Memory}
+use Rattle.report_text.specs.declared.answer.Answer.TheVariants.{Done, Loaded, Forked, Saved, Shared, Refused, Full, Memory}
 use Rattle.report_text.specs.declared.answer.Code.{Code}
 use Rattle.report_text.specs.declared.answer.Code.TheVariants.{Ended}
 use Rattle.report_text.specs.Lines.{list_line}
@@ -29,13 +29,15 @@ use Rattle.process_runs.specs.declared.turns.Order.TheVariants.{ByTurns, Alone}
 use Rattle.command_core.specs.declared.TheConstants.{WORD_BYTES}
 use Rattle.command_core.specs.State.{AreLikeStates, Checkpoint, Registry, State, registry_of, with_wholes}
 use Rattle.command_core.specs.Sessions.{InSession}
-use Rattle.command_core.specs.Rows.{Changed, Row, accepts, change_by, event_needs, falls_short, first_refusal, flushed_by, row_is_full, ledger_by, may_want_memory, refuses, wants_by, within_units}
+use Rattle.command_core.specs.Rows.{Changed, Row, accepts, change_by, event_needs, falls_short, first_refusal, flushed_by, row_is_full, ledger_by, may_want_memory, refuses, registered, still_row, wants_by, within_units}
 use Rattle.command_core.specs.Giving.{ComesTo, GivesChange}
-use Rattle.command_core.specs.Changes.{change_row, load_row}
-use Rattle.process_runs.specs.Turns.{InRun, Progress, Ran, break_at, ending, ending_by, event_then, first_event, last_break, left_by, left_of, next_of, begun_alone, by_turns, ran, ran_text, rest_of, run_after, run_found, stopped, turns_by, ran_from, unless_broken}
+use Rattle.command_core.specs.Changes.{LedgerTold, TellsCounts, TellsDedup, TellsDedupAll, change_row, ledger_row, load_row, row_in, told_by_ledger}
+use Rattle.process_runs.specs.Turns.{Progress, begun_alone, by_turns, ran_from, ran_text}
 use Rattle.command_core.specs.Looks.{counts_of}
-use Rattle.command_core.specs.Commands.{Performed, change_told, checkpoint_text, counts_text, disasm_text, dump_text, exec_done, exec_turns, list_head, list_text, performed, prints_of, prints_read, process_text, regs_done, regs_of, row_told, stats_text, step_done, steps, takes_turns, told, rules}
-use Rattle.command_core.specs.CommandCases.{GoesBy, ByExec, ByRun, ByStep, ByList, ByStats, ByRegs, ByDump, ByDisasm, ByChange, goes_by}
+use Rattle.command_core.specs.Commands.{Performed, change_told, checkpoint_text, counts_text, disasm_text, dump_text, exec_done, exec_turns, ledger_done, list_head, list_text, performed, prints_of, prints_read, process_text, regs_done, regs_of, row_told, stats_text, step_done, steps, takes_turns, told, rules}
+use Rattle.command_core.specs.CommandCases.{GoesBy, ByExec, ByRun, ByStep, ByList, ByRegs, ByDump, ByDisasm, ByLedger, ByChange, goes_by}
+use Rattle.command_core.specs.Deduplication.{dedup_all_row, dedup_row}
+use Rattle.command_core.specs.DeduplicationLaws.{dedup_all_same, dedup_same}
 use Rattle.command_core.specs.Standing.{GivesAs}
 
 -- States that differ in the numbers of origins alone come to the same texts, and stay so.
@@ -113,31 +115,48 @@ module _ (row : Row) (a b : State) (like : AreLikeStates a b) where
       by_refusal None = like_within (row_is_full row a) (row_is_full row b) like_full
       by_refusal (Some code) = record { answer_is = refl; after_is = like }
 
--- the row that each has
-module _ (row : Registry → Row) (a b : State) (like : AreLikeStates a b) where
-  pub like_change : AreLikeChanges (change_by (row (registry_of a)) a) (change_by (row (registry_of b)) b)
-  like_change =
-      subst (λ (r : Registry). AreLikeChanges (change_by (row (registry_of a)) a) (change_by (row r) b)) (registries_same a b like)
-      (like_row (row (registry_of a)) a b like)
+-- The row that each has: it is the same.
+abbrev pub IsSameRow : (State → Row) → Type 0
+IsSameRow row = (a b : State) → AreLikeStates a b → row a ≡ row b
 
-  pub like_wanting : may_want_memory (row (registry_of a)) a ≡ may_want_memory (row (registry_of b)) b
-  like_wanting = like_wants (row (registry_of a)) a b like ∙ ap (λ (r : Registry). may_want_memory (row r) b) (registries_same a b like)
+pub registered_same : (row : Registry → Row) → IsSameRow (registered row)
+registered_same row a b like = ap row (registries_same a b like)
+
+ledger_same : (tells : LedgerTold) → IsSameRow (ledger_row tells)
+ledger_same TellsCounts a b like = registered_same still_row a b like
+ledger_same (TellsDedup p address q other) a b like = dedup_same a b like p address q other
+ledger_same (TellsDedupAll p q) a b like = dedup_all_same a b like p q
+
+pub row_same : (file : List ℕ) (c : Command) → IsSameRow (row_in file c)
+row_same file c = by_told (told_by_ledger c)
+  where
+    by_told : (tells : Option LedgerTold) → IsSameRow (option_map_or (λ tells. ledger_row tells) tells (registered (change_row file c)))
+    by_told None = registered_same (change_row file c)
+    by_told (Some tells) = ledger_same tells
+
+module _ (row : State → Row) (same : IsSameRow row) where
+  pub like_change : (a b : State) → AreLikeStates a b → AreLikeChanges (change_by (row a) a) (change_by (row b) b)
+  like_change a b like = subst (λ (r : Row). AreLikeChanges (change_by (row a) a) (change_by r b)) (same a b like) (like_row (row a) a b like)
+
+  pub like_wanting : (a b : State) → AreLikeStates a b → may_want_memory (row a) a ≡ may_want_memory (row b) b
+  like_wanting a b like = like_wants (row a) a b like ∙ ap (λ (r : Row). may_want_memory r b) (same a b like)
 
 -- what a change gives is what it gives to each state
-module _ (row : Registry → Row) (old new : InSession) where
-  gives_each : (answer : Answer) → ComesTo (change_by (row (registry_of old.state)) old.state) answer new.state → (state : State)
-      → AreLikeStates old.state state → ComesTo (change_by (row (registry_of state)) state) answer new.state
+module _ (row : State → Row) (same : IsSameRow row) (old new : InSession) where
+  gives_each : (answer : Answer) → ComesTo (change_by (row old.state) old.state) answer new.state → (state : State)
+      → AreLikeStates old.state state → ComesTo (change_by (row state) state) answer new.state
   gives_each answer comes state stands =
-      let like = like_change row old.state state stands in
+      let like = like_change row same old.state state stands in
       record { answer_is = comes.answer_is ∙ like.answer_is; after_is = states_chain new.state _ _ comes.after_is like.after_is }
 
-  pub gives_as : (answer : Answer) → GivesChange (row (registry_of old.state)) old.state answer new.state → GivesAs row old answer new
-  gives_as Memory (wants, same) = λ state stands.
-      (sym (like_wanting row old.state state stands) ∙ wants, subst (λ (s : State). AreLikeStates s state) (sym same) stands)
+  pub gives_as : (answer : Answer) → GivesChange (row old.state) old.state answer new.state → GivesAs row old answer new
+  gives_as Memory (wants, kept) = λ state stands.
+      (sym (like_wanting row same old.state state stands) ∙ wants, subst (λ (s : State). AreLikeStates s state) (sym kept) stands)
   gives_as Done comes = gives_each Done comes
   gives_as (Loaded p pages entry) comes = gives_each (Loaded p pages entry) comes
   gives_as (Forked p q) comes = gives_each (Forked p q) comes
   gives_as (Saved p name space) comes = gives_each (Saved p name space) comes
+  gives_as (Shared pages) comes = gives_each (Shared pages) comes
   gives_as (Refused code) comes = gives_each (Refused code) comes
   gives_as (Full units limit) comes = gives_each (Full units limit) comes
 
@@ -148,10 +167,10 @@ pub record AreLikePerformed (x y : Performed State) : Type 0 where
   pub after : AreLikeStates x.after y.after
   pub wants : x.wants_memory ≡ y.wants_memory
 
-like_told : (row : Registry → Row) (a b : State) → AreLikeStates a b → AreLikePerformed (row_told rules (row (registry_of a)) a) (row_told rules (row (registry_of b)) b)
-like_told row a b like =
-    let change = like_change row a b like in
-    record { text = ap answer_text change.answer_is; after = change.after_is; wants = like_wanting row a b like }
+like_told : (row : State → Row) → IsSameRow row → (a b : State) → AreLikeStates a b → AreLikePerformed (row_told rules (row a) a) (row_told rules (row b) b)
+like_told row same a b like =
+    let change = like_change row same a b like in
+    record { text = ap answer_text change.answer_is; after = change.after_is; wants = like_wanting row same a b like }
 
 -- the turns that there are with some breakpoints
 abbrev takes_by : Breaks → Progress → State → Performed State
@@ -173,6 +192,7 @@ like_exec_turns calls turns (Loaded p pages entry) a b like = like_takes (begun_
 like_exec_turns calls turns Done a b like = record { text = refl; after = like; wants = refl }
 like_exec_turns calls turns (Forked p q) a b like = record { text = refl; after = like; wants = refl }
 like_exec_turns calls turns (Saved p name space) a b like = record { text = refl; after = like; wants = refl }
+like_exec_turns calls turns (Shared pages) a b like = record { text = refl; after = like; wants = refl }
 like_exec_turns calls turns (Refused code) a b like = record { text = refl; after = like; wants = refl }
 like_exec_turns calls turns (Full units limit) a b like = record { text = refl; after = like; wants = refl }
 like_exec_turns calls turns Memory a b like = record { text = refl; after = like; wants = refl }
@@ -181,7 +201,7 @@ like_exec : (calls : Bool) (file : List ℕ) (turns : ℕ) (a b : State) → Are
 like_exec calls file turns a b like =
     let x = change_by (load_row file (registry_of a)) a in
     let y = change_by (load_row file (registry_of b)) b in
-    let first = like_change (load_row file) a b like in
+    let first = like_change (registered (load_row file)) (registered_same (load_row file)) a b like in
     let next = like_exec_turns calls turns x.answer x.after y.after first.after_is in
     record {
       text = ap (λ t. answer_text t ++ (exec_turns rules calls turns x.answer x.after).text) first.answer_is
@@ -248,7 +268,14 @@ unfolding stats_text
 stats_same a b like = ap counts_text (counts_same a.wholes b.wholes like.wholes)
 
 like_changed : (file : List ℕ) (c : Command) (a b : State) → AreLikeStates a b → AreLikePerformed (change_told rules file c a) (change_told rules file c b)
-like_changed file c a b like = like_told (change_row file c) a b like
+like_changed file c a b like = like_told (registered (change_row file c)) (registered_same (change_row file c)) a b like
+
+-- what is told by the ledger
+like_ledger_done : (tells : LedgerTold) (a b : State) → AreLikeStates a b → AreLikePerformed (ledger_done tells a) (ledger_done tells b)
+like_ledger_done TellsCounts a b like = record { text = stats_same a b like; after = like; wants = refl }
+like_ledger_done (TellsDedup p address q other) a b like =
+    like_told (dedup_row p address q other) (ledger_same (TellsDedup p address q other)) a b like
+like_ledger_done (TellsDedupAll p q) a b like = like_told (dedup_all_row p q) (ledger_same (TellsDedupAll p q)) a b like
 
 pub like_performed : (modes : Modes) (file : List ℕ) (c : Command) (a b : State) → AreLikeStates a b → AreLikePerformed (performed modes file c a) (performed modes file c b)
 like_performed modes file command a b like = by_case command (goes_by rules rules modes file command)
@@ -258,10 +285,12 @@ like_performed modes file command a b like = by_case command (goes_by rules rule
     by_case _ (ByRun turns) = like_takes (by_turns modes.quantum modes.calls turns) a b like
     by_case _ (ByStep p turns) = like_step modes.calls p turns a b like
     by_case _ ByList = record { text = list_same a b like; after = like; wants = refl }
-    by_case _ ByStats = record { text = stats_same a b like; after = like; wants = refl }
     by_case _ (ByRegs p) = like_regs p a b like
     by_case _ (ByDump p address count) = like_prints p address count (λ memory. dump_text memory address count) a b like
     by_case _ (ByDisasm p address words) = like_prints p address (WORD_BYTES * words) (λ memory. disasm_text modes.extension memory address words) a b like
-    by_case _ (ByChange c here there counts) =
+    by_case _ (ByLedger c tells here there is) =
+        subst (λ x. AreLikePerformed x (performed modes file c b)) (sym (here a))
+        (subst (λ y. AreLikePerformed (ledger_done tells a) y) (sym (here b)) (like_ledger_done tells a b like))
+    by_case _ (ByChange c here there is) =
         subst (λ x. AreLikePerformed x (performed modes file c b)) (sym (here a))
         (subst (λ y. AreLikePerformed (change_told rules file c a) y) (sym (here b)) (like_changed file c a b like))

@@ -23,11 +23,9 @@ SessionAnswersAs answer session result = (state : State) → SessionStandsFor se
 
 -- a change: what its row comes to, in each of them; or want of memory, where each of them may want it, and the session stands for what
 -- it stood for
-abbrev pub GivesAs : (Registry → Row) → InSession → Answer → InSession → Type 0
-GivesAs row old Memory new =
-    (state : State) → SessionStandsFor old state → (may_want_memory (row (registry_of state)) state ≡ true) × SessionStandsFor new state
-GivesAs row old answer new =
-    (state : State) → SessionStandsFor old state → ComesTo (change_by (row (registry_of state)) state) answer new.state
+abbrev pub GivesAs : (State → Row) → InSession → Answer → InSession → Type 0
+GivesAs row old Memory new = (state : State) → SessionStandsFor old state → (may_want_memory (row state) state ≡ true) × SessionStandsFor new state
+GivesAs row old answer new = (state : State) → SessionStandsFor old state → ComesTo (change_by (row state) state) answer new.state
 
 -- what holds of each of them
 abbrev pub HoldsFor : (State → Type 0) → InSession → Type 0

@@ -14,7 +14,7 @@ use Rattle.machine_core.specs.Turns.{after_turn, guest_after, guest_of, guest_re
 use Rattle.machine_core.specs.Ample.{is_full_turn, step_fits}
 use Rattle.machine_core.specs.Laws.{after_extension}
 use Rattle.report_text.specs.declared.answer.Answer.{Answer}
-use Rattle.report_text.specs.declared.answer.Answer.TheVariants.{Done, Loaded, Forked, Saved, Refused, Full, Memory}
+use Rattle.report_text.specs.declared.answer.Answer.TheVariants.{Done, Loaded, Forked, Saved, Shared, Refused, Full, Memory}
 use Rattle.report_text.specs.declared.answer.Code.{Code}
 use Rattle.report_text.specs.declared.answer.Code.TheVariants.{Ended, NoProcess, Unmapped}
 use Rattle.report_text.specs.declared.answer.Stop.{Stop}
@@ -26,12 +26,13 @@ use Rattle.command_core.specs.declared.modes.Modes.{Modes}
 use Rattle.command_core.specs.declared.TheConstants.{WORD_BYTES}
 use Rattle.command_core.specs.State.{Registry, State, registry_of}
 use Rattle.command_core.specs.Rows.{Changed, MemoryTaken, Row, TakesFirst, TakesLast, TakesNone, accepts, change_by, event_needs, falls_short, first_refusal, row_is_full as is_row_full, may_want_memory, refuses, wants_by}
-use Rattle.command_core.specs.Changes.{change_row, load_row}
+use Rattle.command_core.specs.Changes.{LedgerTold, TellsCounts, TellsDedup, TellsDedupAll, change_row, ledger_row, load_row, told_by_ledger}
 use Rattle.process_runs.specs.Turns.{Progress, Ran, begun_alone, by_turns, ran_from, ran_text}
 use Rattle.process_runs.specs.UnboundedLaws.{same_ran, same_text}
-use Rattle.command_core.specs.Commands.{Performed, change_told, checkpoint_text, checkpoints_text, disasm_text, dump_from, dump_text, exec_done, exec_turns, list_head, list_text, performed, performed_by, text_printed, prints_of, prints_read, process_text, processes_text, registers_from, regs_head, regs_of, regs_text, row_told, rules, stats_text, steps, takes_turns, told}
-use Rattle.command_core.specs.CommandCases.{GoesBy, ByExec, ByRun, ByStep, ByList, ByStats, ByRegs, ByDump, ByDisasm, ByChange, goes_by, ledger_done}
-use Rattle.command_core.specs.Unbounded.{Unbounded, change_unbounded, does_row, takes_unbounded, unbounded, wants_unbounded}
+use Rattle.command_core.specs.Commands.{Performed, change_told, checkpoint_text, checkpoints_text, disasm_text, dump_from, dump_text, exec_done, exec_turns, ledger_done, list_head, list_text, performed, performed_by, text_printed, prints_of, prints_read, process_text, processes_text, registers_from, regs_head, regs_of, regs_text, row_told, rules, stats_text, steps, takes_turns, told}
+use Rattle.command_core.specs.Deduplication.{dedup_all_row, dedup_row}
+use Rattle.command_core.specs.CommandCases.{GoesBy, ByExec, ByRun, ByStep, ByList, ByRegs, ByDump, ByDisasm, ByLedger, ByChange, goes_by}
+use Rattle.command_core.specs.Unbounded.{Unbounded, change_unbounded, does_row, next_told, takes_unbounded, unbounded, wants_unbounded}
 
 -- As long as no line says `full`, the copying machine says and does what the unbounded one does.
 
@@ -120,6 +121,7 @@ module _ (counts : List (List ℕ)) (behind : List ℕ) where
   same_exec_turns calls turns Done state none = same_printed false [] state
   same_exec_turns calls turns (Forked p q) state none = same_printed false [] state
   same_exec_turns calls turns (Saved p name space) state none = same_printed false [] state
+  same_exec_turns calls turns (Shared pages) state none = same_printed false [] state
   same_exec_turns calls turns (Refused code) state none = same_printed false [] state
   same_exec_turns calls turns (Full units limit) state none = same_printed false [] state
   same_exec_turns calls turns Memory state none = same_printed false [] state
@@ -179,9 +181,29 @@ module _ (counts : List (List ℕ)) (behind : List ℕ) (calls : Bool) (file : L
         wants = refl;
       }
 
+-- What is told by the ledger leaves the unbounded machine as it is, and wants no memory.
+row_leaves : (counts : List (List ℕ)) (row : Row) (state : State) → row.after ≡ registry_of state
+    → unbounded_of counts (change_by row state).after ≡ unbounded_of counts state
+row_leaves counts row state stays = by_cases (first_refusal row.refusals) (is_row_full row state)
+  where
+    by_cases : (refusal : Option Code) (full : Bool) → unbounded_of counts (given_by row state refusal full).after ≡ unbounded_of counts state
+    by_cases (Some code) full = refl
+    by_cases None true = refl
+    by_cases None false = λ i. record { registry = stays i; extension = state.wholes.extension; told = counts }
+
+ledger_leaves : (counts : List (List ℕ)) (tells : LedgerTold) (state : State) → unbounded_of counts (ledger_done tells state).after ≡ unbounded_of counts state
+ledger_leaves counts TellsCounts state = refl
+ledger_leaves counts (TellsDedup p address q other) state = row_leaves counts (dedup_row p address q other state) state refl
+ledger_leaves counts (TellsDedupAll p q) state = row_leaves counts (dedup_all_row p q state) state refl
+
+ledger_wants : (tells : LedgerTold) (state : State) → (ledger_done tells state).wants_memory ≡ false
+ledger_wants TellsCounts state = refl
+ledger_wants (TellsDedup p address q other) state = refl
+ledger_wants (TellsDedupAll p q) state = refl
+
 -- the line of a command that is told by the ledger, before others
 abbrev pub with_told : Command → State → List (List ℕ) → List (List ℕ)
-with_told command state counts = option_map_or (λ done. (done state).text ∷ counts) (ledger_done command) counts
+with_told command state counts = option_map_or (λ tells. (ledger_done tells state).text ∷ counts) (told_by_ledger command) counts
 
 -- Where a command's text has no line of `full`, it comes to what it comes to in the unbounded machine.
 module _ (counts : List (List ℕ)) (behind : List ℕ) (modes : Modes) (file : List ℕ) (state : State) where
@@ -191,25 +213,38 @@ module _ (counts : List (List ℕ)) (behind : List ℕ) (modes : Modes) (file : 
 
   -- a change, of which it is known that it isn't told by the ledger
   same_changed : (c : Command) → ((at : State) → performed modes file c at ≡ change_told rules file c at)
-      → ((at : Unbounded) → performed_by unbounded modes file c at ≡ change_told unbounded file c at) → ledger_done c ≡ None → ComesSame c
+      → ((at : Unbounded) → performed_by unbounded modes file c at ≡ change_told unbounded file c at) → told_by_ledger c ≡ None → ComesSame c
   same_changed c here there is none =
       let same = same_told counts behind (change_row file c (registry_of state)) state (subst (λ x. ShowsNoFull x behind) (here state) none) in
       let left = subst (λ x. PerformedSame counts x (change_told unbounded file c (unbounded_of counts state))) (sym (here state)) same in
-      subst (λ (o : Option (State → Performed State)). PerformedSame counts (performed modes file c state)
-      (performed_by unbounded modes file c (unbounded_of (option_map_or (λ done. (done state).text ∷ counts) o counts) state))) (sym is)
+      subst (λ (o : Option LedgerTold). PerformedSame counts (performed modes file c state)
+      (performed_by unbounded modes file c (unbounded_of (option_map_or (λ tells. (ledger_done tells state).text ∷ counts) o counts) state))) (sym is)
       (subst (λ y. PerformedSame counts (performed modes file c state) y) (sym (there (unbounded_of counts state))) left)
+
+  -- one that is: the unbounded machine is given its line
+  same_given : (c : Command) (tells : LedgerTold) → ((at : State) → performed modes file c at ≡ ledger_done tells at)
+      → ((at : Unbounded) → performed_by unbounded modes file c at ≡ next_told at.told at) → told_by_ledger c ≡ Some tells
+      → PerformedSame counts (performed modes file c state) (performed_by unbounded modes file c (unbounded_of (with_told c state counts) state))
+  same_given c tells here there is =
+      let given = (ledger_done tells state).text ∷ counts in
+      let same : PerformedSame counts (ledger_done tells state) (next_told given (unbounded_of given state)) =
+      record { text = refl; after = ledger_leaves counts tells state; wants = ledger_wants tells state } in
+      subst (λ (o : Option LedgerTold). PerformedSame counts (performed modes file c state)
+      (performed_by unbounded modes file c (unbounded_of (option_map_or (λ tells. (ledger_done tells state).text ∷ counts) o counts) state))) (sym is)
+      (subst (λ y. PerformedSame counts (performed modes file c state) y) (sym (there (unbounded_of given state)))
+      (subst (λ x. PerformedSame counts x (next_told given (unbounded_of given state))) (sym (here state)) same))
 
   same_case : (c : Command) → GoesBy rules unbounded modes file c → ComesSame c
   same_case _ (ByExec name turns) none = same_exec counts behind modes.calls file turns state none
   same_case _ (ByRun turns) none = same_takes counts behind (by_turns modes.quantum modes.calls turns) state none
   same_case _ (ByStep p turns) none = same_steps counts behind modes.calls p turns (get state.wholes.processes p) state none
   same_case _ ByList none = same_printed counts behind false (list_text (registry_of state)) state
-  same_case _ ByStats none = record { text = refl; after = refl; wants = refl }
   same_case _ (ByRegs p) none = same_regs counts behind p (get state.wholes.processes p) state
   same_case _ (ByDump p address count) none =
       same_prints counts behind address count (λ memory. dump_text memory address count) (get state.wholes.processes p) state
   same_case _ (ByDisasm p address words) none =
       same_prints counts behind address (WORD_BYTES * words) (λ memory. disasm_text modes.extension memory address words) (get state.wholes.processes p) state
+  same_case _ (ByLedger c tells here there is) none = same_given c tells here there is
   same_case _ (ByChange c here there is) none = same_changed c here there is none
 
 pub same_performed : (counts : List (List ℕ)) (behind : List ℕ) (modes : Modes) (file : List ℕ) (c : Command) (state : State)
@@ -279,6 +314,7 @@ exec_turns_lines calls turns (Loaded p pages entry) state = ran_lines (ran_from 
 exec_turns_lines calls turns Done state = no_lines
 exec_turns_lines calls turns (Forked p q) state = no_lines
 exec_turns_lines calls turns (Saved p name space) state = no_lines
+exec_turns_lines calls turns (Shared pages) state = no_lines
 exec_turns_lines calls turns (Refused code) state = no_lines
 exec_turns_lines calls turns (Full units limit) state = no_lines
 exec_turns_lines calls turns Memory state = no_lines
@@ -286,6 +322,11 @@ exec_turns_lines calls turns Memory state = no_lines
 stats_lines : (state : State) → AreWholeLines (stats_text state)
 unfolding stats_text
 stats_lines state = ends_stats _ _ _ _ _ true
+
+ledger_lines : (tells : LedgerTold) (state : State) → AreWholeLines (ledger_done tells state).text
+ledger_lines TellsCounts state = stats_lines state
+ledger_lines (TellsDedup p address q other) state = answer_lines (change_by (dedup_row p address q other state) state).answer
+ledger_lines (TellsDedupAll p q) state = answer_lines (change_by (dedup_all_row p q state) state).answer
 
 pub performed_lines : (modes : Modes) (file : List ℕ) (c : Command) (state : State) → AreWholeLines (performed modes file c state).text
 performed_lines modes file command state = by_case command (goes_by rules rules modes file command)
@@ -297,12 +338,12 @@ performed_lines modes file command state = by_case command (goes_by rules rules 
     by_case _ (ByRun turns) = ran_lines (ran_from state.breakpoints state.wholes (by_turns modes.quantum modes.calls turns))
     by_case _ (ByStep p turns) = steps_lines modes.calls p turns (get state.wholes.processes p) state
     by_case _ ByList = list_lines (registry_of state)
-    by_case _ ByStats = stats_lines state
     by_case _ (ByRegs p) = regs_lines p (get state.wholes.processes p) state
     by_case _ (ByDump p address count) =
         prints_lines address count (λ memory. dump_text memory address count) (λ memory. dump_lines _ memory address count) (get state.wholes.processes p) state
     by_case _ (ByDisasm p address words) =
         prints_lines address (WORD_BYTES * words) (λ memory. disasm_text modes.extension memory address words) (λ memory. disasm_lines modes.extension memory address words)
         (get state.wholes.processes p) state
-    by_case _ (ByChange c here there counts) =
+    by_case _ (ByLedger c tells here there is) = subst (λ x. AreWholeLines x.text) (sym (here state)) (ledger_lines tells state)
+    by_case _ (ByChange c here there is) =
         subst (λ x. AreWholeLines x.text) (sym (here state)) (answer_lines (change_by (change_row file c (registry_of state)) state).answer)

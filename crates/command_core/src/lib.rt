@@ -11,12 +11,14 @@
 //! - `checkpoints`: what is kept of them, by name
 //! - `process_changes`: changes of one process that is there: speculation, promotion, pages and registers
 //! - `mapping`: pages that are mapped, and that are given up
+//! - `dedup`: pages that are put on those of another process
 //! - `poking`: bytes that are stored
 //! - `reading`: bytes that are looked at
 #![tactic(auto)]
 
 mod assembling;
 mod checkpoints;
+mod dedup;
 mod forking;
 mod mapping;
 mod modes;

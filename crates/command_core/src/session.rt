@@ -5,12 +5,13 @@ ghost use Rattle.sizes.specs.declared.TheConstants.{ADDRESS_END, LAST_SPACE, MOS
 ghost use Rattle.command_core.specs.State.{fresh, registry_of, State, extended};
 ghost use Rattle.command_core.specs.Sessions.{AreSettledCounts, KeepsRest, called_session, fresh_session, extended_session};
 ghost use Rattle.command_core.specs.Giving.{GivesChange, WantKeeps};
-ghost use Rattle.command_core.specs.Rows.{still_row};
+ghost use Rattle.command_core.specs.Deduplication.{dedup_all_row, dedup_row};
+ghost use Rattle.command_core.specs.Rows.{registered, still_row};
 ghost use Rattle.command_core.specs.Copies.{fork_row};
 ghost use Rattle.command_core.specs.ProcessChanges.{process_row};
 ghost use Rattle.command_core.specs.Debugging.{break_row, poke_row, unbreak_row};
 ghost use Rattle.command_core.specs.Checkpoints.{checkpoint_row, forget_row, on_checkpoint, restore_row};
-ghost use Rattle.command_core.specs.Changes.{CanBeTold, TakesText, answer_of, asm_row, change_row, drop_row, load_row, on_process};
+ghost use Rattle.command_core.specs.Changes.{CanBeTold, TakesText, answer_of, asm_row, drop_row, load_row, on_process, row_in};
 ghost use Rattle.command_core.specs.Commands.{RunsLoaded};
 ghost use Rattle.command_core.specs.Looks.{BeginsStep, CanRead, LooksAt, LooksAtCheckpoint, NextProcess, ReadsBytes, counts_of, look_of, looked_at};
 ghost use Rattle.command_core.specs.Ample.{IsAmplyDone};
@@ -22,6 +23,7 @@ ghost use Rattle.process_runs.specs.Turns.{IsTurnLine, begun_by, lines_left, run
 
 use crate::assembling::not_assembled;
 use crate::checkpoints::{Checkpoints, Kept};
+use crate::dedup::{dedup_page, dedup_pages};
 use crate::forking::{fork_number, fork_process};
 use crate::modes::Modes;
 use crate::poking::poke;
@@ -185,8 +187,8 @@ impl Session {
     pub fn load(&mut self, file: &[u8]) -> Answer
         ensures gives { GivesChange (load_row file.now (registry_of self.old.state)) self.old.state
             result self.new.state }
-        ensures stands { GivesAs (load_row file.now) self.old result self.new }
-        ensures ample { IsAmplyDone (load_row file.now) self.old result }
+        ensures stands { GivesAs (registered (load_row file.now)) self.old result self.new }
+        ensures ample { IsAmplyDone (registered (load_row file.now)) self.old result }
         ensures want { WantKeeps self.old result self.new }
         ensures told { CanBeTold result }
         ensures runs { RunsLoaded result self.new.state }
@@ -216,9 +218,9 @@ impl Session {
         requires { length text.now ≤ MOST_FILE_BYTES }
         ensures gives { GivesChange (asm_row text.now (registry_of self.old.state)) self.old.state
             result self.new.state }
-        ensures stands { GivesAs (asm_row text.now) self.old result self.new }
+        ensures stands { GivesAs (registered (asm_row text.now)) self.old result self.new }
         ensures taken { TakesText text.now result }
-        ensures ample { IsAmplyDone (asm_row text.now) self.old result }
+        ensures ample { IsAmplyDone (registered (asm_row text.now)) self.old result }
         ensures want { WantKeeps self.old result self.new }
         ensures told { CanBeTold result }
         ensures modes { self.new.modes ≡ self.old.modes }
@@ -425,6 +427,29 @@ impl Session {
         Answer::Done
     }
 
+    /// Puts the page of an address of process `p` on that of an address of process `q`: they share a frame, and what differs becomes own
+    /// lines. No process changes, and the units fall.
+    fn dedup(&mut self, p: u16, address: u64, q: u16, other: u64) -> Answer
+        ensures gives { GivesChange (dedup_row p address q other self.old.state) self.old.state
+            result self.new.state }
+        ensures want { WantKeeps self.old result self.new }
+        ensures told { CanBeTold result }
+        ensures modes { self.new.modes ≡ self.old.modes }
+    {
+        dedup_page(&mut self.machine, p, address, q, other)
+    }
+
+    /// Puts each page of process `p` that process `q` has too on that one, where that can be, and passes over the others.
+    fn dedup_all(&mut self, p: u16, q: u16) -> Answer
+        ensures gives { GivesChange (dedup_all_row p q self.old.state) self.old.state
+            result self.new.state }
+        ensures want { WantKeeps self.old result self.new }
+        ensures told { CanBeTold result }
+        ensures modes { self.new.modes ≡ self.old.modes }
+    {
+        dedup_pages(&mut self.machine, p, q)
+    }
+
     /// Gives up a process.
     fn drop_process(&mut self, p: u16) -> Answer
         ensures gives { GivesChange (on_process p (drop_row p) (registry_of self.old.state)) self.old.state
@@ -449,7 +474,7 @@ impl Session {
     fn do_row(&mut self, command: &Command) -> Answer
         requires asks { asks command.now ≡ None }
         requires given { IsGiven command.now }
-        ensures gives { GivesChange (change_row [] command.now (registry_of self.old.state)) self.old.state
+        ensures gives { GivesChange (row_in [] command.now self.old.state) self.old.state
             result self.new.state }
         ensures settled { command.now ≡ Command.Compact → AreSettledCounts self.new.free_blocks }
         ensures want { WantKeeps self.old result self.new }
@@ -468,6 +493,8 @@ impl Session {
                 self.change_process(*p, ProcessChange::Promote(*address))
             }
             Command::PromoteAll(p) => self.change_process(*p, ProcessChange::PromoteAll),
+            Command::Dedup(p, address, q, other) => self.dedup(*p, *address, *q, *other),
+            Command::DedupAll(p, q) => self.dedup_all(*p, *q),
             Command::Compact => self.compact(),
             Command::Map(p, address, n, perms) => {
                 self.change_process(*p, ProcessChange::Map(*address, *n, *perms))
@@ -502,10 +529,10 @@ impl Session {
     pub fn change(&mut self, command: &Command) -> Answer
         requires asks { asks command.now ≡ None }
         requires given { IsGiven command.now }
-        ensures gives { GivesChange (change_row [] command.now (registry_of self.old.state)) self.old.state
+        ensures gives { GivesChange (row_in [] command.now self.old.state) self.old.state
             result self.new.state }
-        ensures stands { GivesAs (change_row [] command.now) self.old result self.new }
-        ensures ample { IsAmplyDone (change_row [] command.now) self.old result }
+        ensures stands { GivesAs (row_in [] command.now) self.old result self.new }
+        ensures ample { IsAmplyDone (row_in [] command.now) self.old result }
         ensures settled { command.now ≡ Command.Compact → AreSettledCounts self.new.free_blocks }
         ensures want { WantKeeps self.old result self.new }
         ensures told { CanBeTold result }

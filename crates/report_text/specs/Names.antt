@@ -38,7 +38,7 @@ elf_text elf.NothingToLoad = codes "E14 nothing-to-load"
 elf_text elf.TooManyPages = codes "E15 too-many-pages"
 elf_text elf.Memory = []
 
--- the code and the name of a refusal, and the address or the line of one that has it
+-- the code and the name of a refusal, and the address or the number of one that has it
 abbrev pub code_text : Code → List ℕ
 code_text code.NoProcess = codes "C1 no-process"
 code_text code.Ended = codes "C2 ended"
@@ -51,6 +51,9 @@ code_text (code.Mapped at) = codes "C8 mapped " ++ address_text at
 code_text code.NumbersUsed = codes "C9 numbers-used"
 code_text code.Outside = codes "C10 outside"
 code_text (code.Forbidden at) = codes "C11 forbidden " ++ address_text at
+code_text code.NotAlone = codes "C12 not-alone"
+code_text code.FrameHere = codes "C13 frame-here"
+code_text (code.NotAlike n) = codes "C14 not-alike " ++ in_decimal n
 code_text (code.Elf error) = elf_text error
 code_text (code.AsmLine k) = codes "A1 bad-line " ++ in_decimal k
 code_text (code.AsmTwice k) = codes "A2 twice " ++ in_decimal k

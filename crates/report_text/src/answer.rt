@@ -26,6 +26,12 @@ pub enum Code {
     Outside,
     /// A page may not be written; the address at fault.
     Forbidden(u64),
+    /// The page is on a frame that other pages are on too, or on the zero frame.
+    NotAlone,
+    /// A page of the process is on the frame already.
+    FrameHere,
+    /// The pages differ in too many lines; how many would lie in the overlay.
+    NotAlike(u32),
     /// The file isn't taken. Want of memory is no refusal, and has no line.
     Elf(ElfError),
     /// A line of an assembler's text is outside the grammar. Here and below: the first such line, from 1.
@@ -53,6 +59,8 @@ pub enum Answer {
     Forked(u16, u16),
     /// A checkpoint was made: of which process, under which name, and its space.
     Saved(u16, Bytes, u16),
+    /// Pages were put on the frames of others: how many.
+    Shared(u32),
     /// It was refused.
     Refused(Code),
     /// It would need more units than there are: the units that it would come to, and the limit.

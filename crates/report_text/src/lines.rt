@@ -60,6 +60,17 @@ pub(crate) fn put_saved(line: &mut Line, p: u16, name: &[u8], space: u16)
     push_text(line, b"\n");
 }
 
+/// Pages that were put on the frames of others.
+pub(crate) fn put_shared(line: &mut Line, pages: u32)
+    requires { array_vec_len line.old + 256 ≤ LINE_ROOM }
+    ensures text { line.new.items ≡ line.old.items ++ answer_text (answer.Shared pages) }
+    ensures len { array_vec_len line.new ≤ array_vec_len line.old + 256 }
+{
+    push_text(line, b"shared ");
+    push_decimal(line, u64::from(pages));
+    push_text(line, b"\n");
+}
+
 /// A refusal.
 pub(crate) fn put_refused(line: &mut Line, code: Code)
     requires room { array_vec_len line.old + 256 ≤ LINE_ROOM }

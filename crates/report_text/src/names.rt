@@ -50,7 +50,7 @@ fn elf_text(error: ElfError) -> &'static [u8]
     }
 }
 
-/// A name, and the number of a line behind it.
+/// A name, and a number behind it.
 fn push_numbered(line: &mut Line, name: &[u8], k: u32)
     requires short { length name.now ≤ 32 }
     requires room { array_vec_len line.old + 64 ≤ LINE_ROOM }
@@ -61,7 +61,7 @@ fn push_numbered(line: &mut Line, name: &[u8], k: u32)
     push_decimal(line, u64::from(k));
 }
 
-/// The code and the name of a refusal, and the address or the line of one that has it.
+/// The code and the name of a refusal, and the address or the number of one that has it.
 pub(crate) fn push_code(line: &mut Line, code: Code)
     requires has { HasCodeLine code }
     requires room { array_vec_len line.old + 64 ≤ LINE_ROOM }
@@ -89,6 +89,9 @@ pub(crate) fn push_code(line: &mut Line, code: Code)
             push_text(line, b"C11 forbidden ");
             push_address(line, address);
         }
+        Code::NotAlone => push_text(line, b"C12 not-alone"),
+        Code::FrameHere => push_text(line, b"C13 frame-here"),
+        Code::NotAlike(n) => push_numbered(line, b"C14 not-alike ", n),
         Code::Elf(error) => push_text(line, elf_text(error)),
         Code::AsmLine(k) => push_numbered(line, b"A1 bad-line ", k),
         Code::AsmTwice(k) => push_numbered(line, b"A2 twice ", k),

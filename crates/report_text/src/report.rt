@@ -6,7 +6,7 @@ ghost use Rattle.report_text.specs.Answers.{HasAnswerLine, HasPort, IsCheckpoint
 use crate::lines::{
     put_bad, put_break, put_checkpoint, put_disasm, put_dump, put_exited, put_faulted, put_forked,
     put_full, put_full_turn, put_list, put_loaded, put_process, put_ran, put_refused, put_register,
-    put_regs, put_saved, put_stats, put_wrote,
+    put_regs, put_saved, put_shared, put_stats, put_wrote,
 };
 use crate::push::push_text;
 use crate::{Answer, Line, ROW_BYTES, Stop};
@@ -25,6 +25,7 @@ pub fn answer_line(a: &Answer, out: &mut Line)
         Answer::Loaded(p, pages, entry) => put_loaded(out, *p, *pages, *entry),
         Answer::Forked(p, new) => put_forked(out, *p, *new),
         Answer::Saved(p, name, space) => put_saved(out, *p, name.as_slice(), *space),
+        Answer::Shared(pages) => put_shared(out, *pages),
         Answer::Refused(code) => put_refused(out, *code),
         Answer::Full(units, limit) => put_full(out, *units, *limit),
         Answer::Memory => unreachable!(),

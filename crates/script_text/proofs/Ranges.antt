@@ -176,6 +176,11 @@ all_give =
     beside one_given IsProcess process_word Discard process_given (λ a h. h)
     beside two_given IsProcess IsAddress process_word address_word Promote process_given address_given (λ a b h k. (h, k))
     beside two_given IsProcess IsNamed process_word all_word (λ p all. PromoteAll p) process_given all_given (λ a b h k. h)
+    beside then_given IsProcess process_word (λ p. three_words address_word process_word address_word (command.Dedup p)) process_given
+    (λ p h. then_given IsAddress address_word (λ a. two_words process_word address_word (command.Dedup p a)) address_given
+    (λ a k. two_given IsProcess IsAddress process_word address_word (command.Dedup p a) process_given address_given (λ q b l m. (h, k, l, m))))
+    beside then_given IsProcess process_word (λ p. two_words all_word process_word (λ all q. command.DedupAll p q)) process_given
+    (λ p h. two_given IsNamed IsProcess all_word process_word (λ all q. command.DedupAll p q) all_given process_given (λ all q k l. (h, l)))
     beside none_given _ tt
     beside then_given IsProcess process_word (λ p. three_words address_word pages_word perms_word (command.Map p)) process_given
     (λ p h. then_given IsAddress address_word (λ a. two_words pages_word perms_word (command.Map p a)) address_given

@@ -1,10 +1,11 @@
 use Rattle.std.proofs.Common.{◌≡◌, ℕ, Bool, true, false, cond, List, [], ◌∷◌, ◌++◌, length, ◌==◌, ap, sym, ◌∙◌, refl, nat_eq, Option, Some, None, Result, Ok, Err, IfOk}
-use Rattle.std.specs.Option.{option_and_then, option_or}
+use Rattle.std.specs.Option.{option_or}
 use Rattle.std.specs.Cmp.Lexicographic.{same_text}
 use lib.Pointwise.{pointwise}
 use Rattle.script_text.specs.declared.command.Command.{Command}
 use Rattle.script_text.specs.Kinds.{Kind}
 use Rattle.script_text.specs.Forms.{Form, two_words, three_words, machine_forms, debugger_forms, made_at, made_by, command_of}
+use Rattle.script_text.specs.FormLaws.{behind_one}
 
 -- The rows of the table of forms.
 
@@ -62,10 +63,6 @@ unfolding command_of
 in_either first words = made_by_both machine_forms debugger_forms first words
 
 -- words of another count than a form's make nothing by it
-behind_one : {A B : Type 0} (o : Option A) (make : A → Option B) → ((a : A) → make a ≡ None) → option_and_then make o ≡ None
-behind_one None make h = refl
-behind_one (Some a) make h = h a
-
 pub not_two : {A B : Type 0} (kind : Kind A) (other : Kind B) (make : A → B → Command) (ws : List (List ℕ)) → (length ws == 2) ≡ false
     → two_words kind other make ws ≡ None
 not_two kind other make [] h = refl

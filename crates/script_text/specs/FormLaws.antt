@@ -5,9 +5,9 @@ use Rattle.std.specs.List.{cons_option}
 use Rattle.std.specs.Cmp.Lexicographic.{same_text}
 use lib.Pointwise.{pointwise}
 use Rattle.script_text.specs.declared.command.Command.{Command}
-use Rattle.script_text.specs.declared.command.Command.TheVariants.{Promote, PromoteAll}
+use Rattle.script_text.specs.declared.command.Command.TheVariants.{Promote, PromoteAll, Dedup, DedupAll}
 use Rattle.script_text.specs.Kinds.{process_word, address_word, is_all, all_word}
-use Rattle.script_text.specs.Forms.{Form, forms, no_words, one_word, two_words, made_by_each}
+use Rattle.script_text.specs.Forms.{Form, forms, no_words, one_word, two_words, three_words, four_words, made_by_each}
 
 -- A first word and the words behind it fit at most one row of the table: the rows of one first word differ in
 -- the kinds of the words behind it.
@@ -58,6 +58,24 @@ page_or_all : (words : List (List ℕ)) (command : Command) → two_words proces
 page_or_all [] command is = refl
 page_or_all (w ∷ words) command is = behind_process (process_word w) words command is
 
+-- a word makes nothing where nothing is made of what it says
+pub behind_one : {A B : Type 0} (o : Option A) (make : A → Option B) → ((a : A) → make a ≡ None) → option_and_then make o ≡ None
+behind_one None make h = refl
+behind_one (Some a) make h = h a
+
+-- four words aren't three
+one_or_each : (words : List (List ℕ)) (command : Command) → four_words process_word address_word process_word address_word Dedup words ≡ Some command
+    → three_words process_word all_word process_word (λ p all q. DedupAll p q) words ≡ None
+one_or_each [] command is = refl
+one_or_each (w ∷ []) command is = behind_one (process_word w) _ (λ p. refl)
+one_or_each (w ∷ x ∷ []) command is = behind_one (process_word w) _ (λ p. behind_one (all_word x) _ (λ all. refl))
+one_or_each (w ∷ x ∷ y ∷ []) command is =
+    let none : four_words process_word address_word process_word address_word Dedup (w ∷ x ∷ y ∷ []) ≡ None =
+    behind_one (process_word w) _ (λ p. behind_one (address_word x) _ (λ a. behind_one (process_word y) _ (λ q. refl))) in
+    cc
+one_or_each (w ∷ x ∷ y ∷ z ∷ words) command is =
+    behind_one (process_word w) _ (λ p. behind_one (all_word x) _ (λ all. behind_one (process_word y) _ (λ q. refl)))
+
 apart : FormsAreApart forms
 apart =
     (λ words command is. refl)
@@ -73,6 +91,8 @@ apart =
     beside (λ words command is. refl)
     beside (λ words command is. refl)
     beside (λ words command is. ap (λ o. cons_option o []) (page_or_all words command is))
+    beside (λ words command is. refl)
+    beside (λ words command is. ap (λ o. cons_option o []) (one_or_each words command is))
     beside (λ words command is. refl)
     beside (λ words command is. refl)
     beside (λ words command is. refl)

@@ -57,6 +57,8 @@ machine_forms =
     ∷ form (codes "discard") (one_word process_word Discard)
     ∷ form (codes "promote") (two_words process_word address_word Promote)
     ∷ form (codes "promote") (two_words process_word all_word (λ p all. PromoteAll p))
+    ∷ form (codes "dedup") (four_words process_word address_word process_word address_word command.Dedup)
+    ∷ form (codes "dedup") (three_words process_word all_word process_word (λ p all q. command.DedupAll p q))
     ∷ form (codes "compact") (no_words command.Compact)
     ∷ form (codes "map") (four_words process_word address_word pages_word perms_word command.Map)
     ∷ form (codes "unmap") (three_words process_word address_word pages_word command.Unmap)

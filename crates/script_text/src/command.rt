@@ -37,6 +37,10 @@ pub enum Command {
     Promote(u16, u64),
     /// Promotes each page of a process.
     PromoteAll(u16),
+    /// Puts the page of an address of a process on the frame of the page of an address of another, or of its own.
+    Dedup(u16, u64, u16, u64),
+    /// Puts each page of a process that another has too on that one's frame, where that may be done.
+    DedupAll(u16, u16),
     /// Moves segments until free units lie together.
     Compact,
     /// Adds so many zero pages from an address on, with these permissions.
@@ -90,6 +94,8 @@ impl Command {
             | Command::Discard(_)
             | Command::Promote(_, _)
             | Command::PromoteAll(_)
+            | Command::Dedup(_, _, _, _)
+            | Command::DedupAll(_, _)
             | Command::Compact
             | Command::Map(_, _, _, _)
             | Command::Unmap(_, _, _)

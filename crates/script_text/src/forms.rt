@@ -219,6 +219,53 @@ fn promote(words: &[u8]) -> Option<Command>
     }
 }
 
+/// `ADDR Q ADDR`, behind `dedup P`
+#[tactic(auto, using(crate::proofs::Rows::not_three))]
+fn dedup_of(p: u16, words: &[u8]) -> Option<Command>
+    ensures { result ≡ three_words address_word process_word address_word (command.Dedup p) (words_of words.now) }
+{
+    let (address, q, other) = three_words(words)?;
+    let address = address_word(address)?;
+    let q = process_word(q)?;
+    Some(Command::Dedup(p, address, q, address_word(other)?))
+}
+
+/// `dedup P ADDR Q ADDR`
+fn dedup_page(words: &[u8]) -> Option<Command>
+    ensures { result ≡ four_words process_word address_word process_word address_word command.Dedup
+        (words_of words.now) }
+{
+    let (p, behind) = next_word(words)?;
+    dedup_of(process_word(p)?, behind)
+}
+
+/// `dedup P all Q`
+#[tactic(auto, using(crate::proofs::Rows::not_three))]
+fn dedup_all(words: &[u8]) -> Option<Command>
+    ensures { result ≡ three_words process_word all_word process_word (λ p all q. command.DedupAll p q)
+        (words_of words.now) }
+{
+    let (p, all, q) = three_words(words)?;
+    let p = process_word(p)?;
+    if is_all(all) {
+        Some(Command::DedupAll(p, process_word(q)?))
+    } else {
+        None
+    }
+}
+
+/// `dedup P ADDR Q ADDR` or `dedup P all Q`
+fn dedup(words: &[u8]) -> Option<Command>
+    ensures { result
+        ≡ option_or (four_words process_word address_word process_word address_word command.Dedup (words_of words.now))
+        (three_words process_word all_word process_word (λ p all q. command.DedupAll p q) (words_of words.now)) }
+{
+    match dedup_page(words) {
+        Some(command) => Some(command),
+        None => dedup_all(words),
+    }
+}
+
 /// `compact`
 fn compact(words: &[u8]) -> Option<Command>
     ensures { result ≡ no_words command.Compact (words_of words.now) }
@@ -400,6 +447,8 @@ fn machine_command(alloc: Global, first: &[u8], words: &[u8]) -> Result<Option<C
         Ok(discard(words))
     } else if first == b"promote".as_slice() {
         Ok(promote(words))
+    } else if first == b"dedup".as_slice() {
+        Ok(dedup(words))
     } else if first == b"compact".as_slice() {
         Ok(compact(words))
     } else if first == b"map".as_slice() {

@@ -11,7 +11,7 @@ use std::test::Fail;
 fn answers_are_printed(rt: HostRuntime) -> Result<(), Fail> {
     let name = Bytes::new(Vec::from_slice(rt.alloc(), b"base")?);
     let long = Bytes::new(Vec::from_elem(rt.alloc(), b'n', 32)?);
-    let rows: [(Answer, &[u8]); 17] = [
+    let rows: [(Answer, &[u8]); 22] = [
         (Answer::Done, b"ok\n"),
         (
             Answer::Loaded(1, 17, 0x10078),
@@ -27,6 +27,8 @@ fn answers_are_printed(rt: HostRuntime) -> Result<(), Fail> {
             Answer::Saved(9, long, 10),
             b"saved 9 nnnnnnnnnnnnnnnnnnnnnnnnnnnnnnnn 10\n",
         ),
+        (Answer::Shared(0), b"shared 0\n"),
+        (Answer::Shared(131072), b"shared 131072\n"),
         (Answer::Full(33, 32), b"full 33 32\n"),
         (Answer::Refused(Code::NoProcess), b"refused C1 no-process\n"),
         (
@@ -50,6 +52,15 @@ fn answers_are_printed(rt: HostRuntime) -> Result<(), Fail> {
         (
             Answer::Refused(Code::Forbidden(0xFFFF_FFFF_FFFF_FFFF)),
             b"refused C11 forbidden 0xffffffffffffffff\n",
+        ),
+        (Answer::Refused(Code::NotAlone), b"refused C12 not-alone\n"),
+        (
+            Answer::Refused(Code::FrameHere),
+            b"refused C13 frame-here\n",
+        ),
+        (
+            Answer::Refused(Code::NotAlike(32)),
+            b"refused C14 not-alike 32\n",
         ),
         (
             Answer::Refused(Code::Elf(ElfError::TooShort)),

@@ -3,6 +3,7 @@ ghost use Rattle.sizes.specs.declared.TheConstants.{MOST_SCRIPT_BYTES};
 
 mod checkpoint_rows;
 mod debugger_rows;
+mod dedup_rows;
 mod long_rows;
 mod mapping_rows;
 mod overlay_rows;
@@ -11,6 +12,7 @@ mod rows;
 use bitflags::Flags;
 use checkpoint_rows::CHECKPOINT_ROWS;
 use debugger_rows::DEBUGGER_ROWS;
+use dedup_rows::DEDUP_ROWS;
 use long_rows::LONG_ROWS;
 use mapping_rows::MAPPING_ROWS;
 use overlay_rows::OVERLAY_ROWS;
@@ -56,6 +58,10 @@ fn show(alloc: Global, command: &Command, out: &mut Vec<u8>) -> Result<(), Alloc
         Command::Discard(p) => format!(in alloc; "discard {p}")?,
         Command::Promote(p, address) => format!(in alloc; "promote {p} {address}")?,
         Command::PromoteAll(p) => format!(in alloc; "promote {p} all")?,
+        Command::Dedup(p, address, q, other) => {
+            format!(in alloc; "dedup {p} {address} {q} {other}")?
+        }
+        Command::DedupAll(p, q) => format!(in alloc; "dedup {p} all {q}")?,
         Command::Compact => format!(in alloc; "compact")?,
         Command::Map(p, address, pages, perms) => {
             let bits = perms.bits();
@@ -135,6 +141,7 @@ fn scripts_say_what_the_grammar_says(rt: HostRuntime) -> Result<(), Fail> {
         CHECKPOINT_ROWS,
         MAPPING_ROWS,
         OVERLAY_ROWS,
+        DEDUP_ROWS,
         DEBUGGER_ROWS,
         LONG_ROWS,
     ] {
@@ -148,7 +155,7 @@ fn scripts_say_what_the_grammar_says(rt: HostRuntime) -> Result<(), Fail> {
             rows = rows.saturating_add(1);
         }
     }
-    assert_eq!(rt; rows, 1555);
+    assert_eq!(rt; rows, 1677);
     Ok(())
 }
 

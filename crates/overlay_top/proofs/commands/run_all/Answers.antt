@@ -10,4 +10,4 @@ pub returns-clause-takes : goal.returns-clause-takes
 returns-clause-takes g c =
     let session = c.args.session.now in
     subst (λ (d : Performed State). TakesOn g.K.Sink c.args.report.now.sink.now c.take_turns.new.report.sink.now d session c.take_turns.new.session c.take_turns.result)
-    (takes_begun c.begin_run-running.result (by_turns session.modes.quantum c.args.turns) session.state c.begin_run-running.ensures.begun (omega arith)) c.take_turns.ensures.takes
+    (takes_begun c.begin_run-running.result (by_turns session.modes.quantum session.modes.calls c.args.turns) session.state c.begin_run-running.ensures.begun (omega arith)) c.take_turns.ensures.takes

@@ -15,7 +15,7 @@ pub returns-in-Outside-clause-text : goal.returns-in-Outside-clause-text
 returns-in-Outside-clause-text c = c.push_text-in-Outside.ensures.text ∙ ap (λ k. c.args.line.now.items ++ code_text k) (sym c.in-Outside.is)
 
 pub returns-in-AsmLine-clause-text : goal.returns-in-AsmLine-clause-text
-returns-in-AsmLine-clause-text c = c.push_numbered.ensures.text ∙ ap (λ k. c.args.line.now.items ++ code_text k) (sym c.in-AsmLine.is)
+returns-in-AsmLine-clause-text c = c.push_numbered-in-AsmLine.ensures.text ∙ ap (λ k. c.args.line.now.items ++ code_text k) (sym c.in-AsmLine.is)
 
 pub returns-in-AsmOutOfReach-clause-text : goal.returns-in-AsmOutOfReach-clause-text
 returns-in-AsmOutOfReach-clause-text c = c.push_numbered-in-AsmOutOfReach.ensures.text ∙ ap (λ k. c.args.line.now.items ++ code_text k) (sym c.in-AsmOutOfReach.is)

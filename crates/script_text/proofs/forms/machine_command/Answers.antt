@@ -94,30 +94,37 @@ returns-then-eq-13 c =
 
 pub returns-then-eq-14 : goal.returns-then-eq-14
 returns-then-eq-14 c =
-    c.compact.ensures
-    ∙ at_row machine_forms (codes "compact") c.as_slice-else-eq-13.result.now (no_words command.Compact)
+    c.dedup.ensures
+    ∙ at_rows machine_forms (codes "dedup") c.as_slice-else-eq-13.result.now (four_words process_word address_word process_word address_word command.Dedup)
+    (three_words process_word all_word process_word (λ p all q. command.DedupAll p q))
     c.args.first.now (words_of c.args.words.now) (λ ws. refl) c.as_slice-else-eq-13.ensures c.if-eq-14.ensures
 
 pub returns-then-eq-15 : goal.returns-then-eq-15
 returns-then-eq-15 c =
-    c.map.ensures
-    ∙ at_row machine_forms (codes "map") c.as_slice-else-eq-14.result.now (four_words process_word address_word pages_word perms_word command.Map)
+    c.compact.ensures
+    ∙ at_row machine_forms (codes "compact") c.as_slice-else-eq-14.result.now (no_words command.Compact)
     c.args.first.now (words_of c.args.words.now) (λ ws. refl) c.as_slice-else-eq-14.ensures c.if-eq-15.ensures
 
 pub returns-then-eq-16 : goal.returns-then-eq-16
 returns-then-eq-16 c =
-    c.unmap.ensures
-    ∙ at_row machine_forms (codes "unmap") c.as_slice-else-eq-15.result.now (three_words process_word address_word pages_word command.Unmap)
+    c.map.ensures
+    ∙ at_row machine_forms (codes "map") c.as_slice-else-eq-15.result.now (four_words process_word address_word pages_word perms_word command.Map)
     c.args.first.now (words_of c.args.words.now) (λ ws. refl) c.as_slice-else-eq-15.ensures c.if-eq-16.ensures
 
 pub returns-then-eq-17 : goal.returns-then-eq-17
 returns-then-eq-17 c =
-    c.give_up.ensures
-    ∙ at_row machine_forms (codes "drop") c.as_slice-else-eq-16.result.now (one_word process_word Drop)
+    c.unmap.ensures
+    ∙ at_row machine_forms (codes "unmap") c.as_slice-else-eq-16.result.now (three_words process_word address_word pages_word command.Unmap)
     c.args.first.now (words_of c.args.words.now) (λ ws. refl) c.as_slice-else-eq-16.ensures c.if-eq-17.ensures
 
-pub returns-else-eq-17 : goal.returns-else-eq-17
-returns-else-eq-17 c =
+pub returns-then-eq-18 : goal.returns-then-eq-18
+returns-then-eq-18 c =
+    c.give_up.ensures
+    ∙ at_row machine_forms (codes "drop") c.as_slice-else-eq-17.result.now (one_word process_word Drop)
+    c.args.first.now (words_of c.args.words.now) (λ ws. refl) c.as_slice-else-eq-17.ensures c.if-eq-18.ensures
+
+pub returns-else-eq-18 : goal.returns-else-eq-18
+returns-else-eq-18 c =
     at_no_row machine_forms c.args.first.now (words_of c.args.words.now) (
     not_text (codes "exec") c.as_slice.result.now c.args.first.now c.as_slice.ensures c.if-eq.ensures
     beside not_text (codes "load") c.as_slice-else-eq.result.now c.args.first.now c.as_slice-else-eq.ensures c.if-eq-2.ensures
@@ -133,9 +140,11 @@ returns-else-eq-17 c =
     beside not_text (codes "discard") c.as_slice-else-eq-11.result.now c.args.first.now c.as_slice-else-eq-11.ensures c.if-eq-12.ensures
     beside not_text (codes "promote") c.as_slice-else-eq-12.result.now c.args.first.now c.as_slice-else-eq-12.ensures c.if-eq-13.ensures
     beside not_text (codes "promote") c.as_slice-else-eq-12.result.now c.args.first.now c.as_slice-else-eq-12.ensures c.if-eq-13.ensures
-    beside not_text (codes "compact") c.as_slice-else-eq-13.result.now c.args.first.now c.as_slice-else-eq-13.ensures c.if-eq-14.ensures
-    beside not_text (codes "map") c.as_slice-else-eq-14.result.now c.args.first.now c.as_slice-else-eq-14.ensures c.if-eq-15.ensures
-    beside not_text (codes "unmap") c.as_slice-else-eq-15.result.now c.args.first.now c.as_slice-else-eq-15.ensures c.if-eq-16.ensures
-    beside not_text (codes "drop") c.as_slice-else-eq-16.result.now c.args.first.now c.as_slice-else-eq-16.ensures c.if-eq-17.ensures
+    beside not_text (codes "dedup") c.as_slice-else-eq-13.result.now c.args.first.now c.as_slice-else-eq-13.ensures c.if-eq-14.ensures
+    beside not_text (codes "dedup") c.as_slice-else-eq-13.result.now c.args.first.now c.as_slice-else-eq-13.ensures c.if-eq-14.ensures
+    beside not_text (codes "compact") c.as_slice-else-eq-14.result.now c.args.first.now c.as_slice-else-eq-14.ensures c.if-eq-15.ensures
+    beside not_text (codes "map") c.as_slice-else-eq-15.result.now c.args.first.now c.as_slice-else-eq-15.ensures c.if-eq-16.ensures
+    beside not_text (codes "unmap") c.as_slice-else-eq-16.result.now c.args.first.now c.as_slice-else-eq-16.ensures c.if-eq-17.ensures
+    beside not_text (codes "drop") c.as_slice-else-eq-17.result.now c.args.first.now c.as_slice-else-eq-17.ensures c.if-eq-18.ensures
     beside tt
     )
