@@ -9,7 +9,7 @@ ghost use Rattle.overlay_memory.specs.View.{state_of};
 ghost use Rattle.report_text.specs.Answers.{HasAnswerLine, HasCodeLine};
 ghost use Rattle.command_core.specs.Deduplication.{MachineComesTo, dedup_all_row, dedup_code, dedup_row, pair_refusals};
 ghost use Rattle.command_core.specs.Rows.{first_refusal};
-ghost use Rattle.command_core.specs.Sessions.{NoPageAwaits, OwnSpaces};
+ghost use Rattle.process_runs.specs.Places.{NoPageAwaits, OwnSpaces};
 
 use machine_core::Machine;
 use overlay_memory::OverlayMemory;
