@@ -11,9 +11,7 @@ ghost use Rattle.space_maps.specs.Spaces.{page_in};
 
 use overlay_bits::Bits;
 use overlay_pages::{FoundPage, OverlayPages};
-
-/// How many lines a page has.
-const LINES: u8 = 64;
+use sizes::PAGE_LINES;
 
 /// Whether two pages that were found have the same bytes in a line.
 fn is_same_line(pages: &OverlayPages, page: &FoundPage, other: &FoundPage, line: u8) -> bool
@@ -43,7 +41,7 @@ fn lines_of_found(pages: &OverlayPages, page: &FoundPage, other: &FoundPage, mos
 {
     let _count = other.own.len();
     let mut apart = other.own;
-    'comparing: for line in 0..LINES {
+    'comparing: for line in 0..PAGE_LINES as u8 {
         if !is_same_line(pages, page, other, line) {
             apart = apart.with(line);
             if apart.len() > most {

@@ -3,7 +3,7 @@
 ghost use Rattle.std.specs.Prelude.{◌≡◌, ◌≢◌, ℕ, ◌+◌, ◌*◌, ◌<◌, ◌≤◌, List, IfOk, IfSome, IsSome, OnOk, OnErr, None, true, false, length};
 ghost use Rattle.std.specs.Borrow.{Lends, sem, Array, u8 as byte};
 ghost use Rattle.std.specs.FinMap as map;
-ghost use Rattle.std.specs.Option.{option_map};
+ghost use Rattle.std.specs.Option.{is_some, option_map};
 ghost use Rattle.sizes.specs.declared.TheConstants.{LAST_SPACE, LINE_BYTES, MOST_FRAMES, MOST_SPACE_PAGES, MOST_UNITS, PAGE_BYTES, PAGE_END, PAGE_LINES};
 ghost use Rattle.ovl_io.specs.Memory.{bytes_at};
 ghost use Rattle.ovl_io.specs.Permissions.{writable};
@@ -37,6 +37,7 @@ use crate::fronts::Fronts;
 use crate::reading::{is_in_line, line_of, load_line, read_bytes};
 use crate::removing::{remove_pages, unmap_pages};
 use crate::room::{shortage_by, shortage_of};
+use crate::settling::MOST_OWN;
 use crate::storing::{put_line, store_line, write_pages};
 use crate::translating::translate_access;
 use bitflags::Flags;
@@ -44,13 +45,10 @@ use overlay_bits::Bits;
 use overlay_pages::OverlayPages;
 use ovl_io::Perms;
 use page_table::PageTable;
-use sizes::{FRAME_UNITS, PAGE_BYTES};
+use sizes::{FRAME_UNITS, PAGE_BYTES, PAGE_LINES};
 use std::alloc::{AllocError, Global};
 use std::marker::Model;
 use translation_cache::Cache;
-
-/// The most own lines of a page in a space that isn't speculating.
-const MOST_OWN: u32 = 31;
 
 /// The memories of all spaces. Spaces are numbered from 1 to 32,767, pages are below 2^26. A space that a call names is there,
 /// and no page of it awaits `share_page`, where the call doesn't say otherwise.
@@ -481,7 +479,7 @@ impl OverlayMemory {
         ensures rebased { HasRebased (state_of self.old) (state_of self.new) space page from other }
         ensures translations { translations_of self.new ≡ flushed space (translations_of self.old) }
     {
-        match self.rebase_if_alike(space, page, from, other, 64) {
+        match self.rebase_if_alike(space, page, from, other, PAGE_LINES as u32) {
             None => {}
             Some(_) => unreachable!(),
         }
@@ -634,6 +632,16 @@ impl OverlayMemory {
         ensures low { 0 < result → page + result ≤ PAGE_END }
     {
         self.pages.zeros_from(space, page)
+    }
+
+    /// Whether a page is there. Costs a look-up.
+    pub fn has_page(&self, space: u16, page: u64) -> bool
+        ensures there { result ≡ is_some (page_in (state_of self.now) space page) }
+    {
+        match self.pages.next_page(space, page) {
+            Some(found) => found == page,
+            None => false,
+        }
     }
 
     /// The least page of a space not below one that has own lines. None exactly where none has. Costs a look-up.

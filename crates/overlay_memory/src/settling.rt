@@ -16,7 +16,10 @@ use overlay_pages::OverlayPages;
 use translation_cache::Cache;
 
 /// As many own lines as make a segment as large as a frame.
-const LARGE_LINES: u32 = 32;
+pub const LARGE_LINES: u32 = 32;
+
+/// The most own lines of a page in a space that isn't speculating.
+pub const MOST_OWN: u32 = LARGE_LINES - 1;
 
 /// Whether a page that is there, and was stored to, is settled: it has 32 own lines or more, its space isn't speculating, and it isn't
 /// alone.
@@ -59,7 +62,7 @@ pub(crate) fn stays_overlay(pages: &OverlayPages, space: u16, own: Bits) -> bool
     ensures { IsTrue result → (space_in (state_of pages.now) space).speculating ≡ false
         → length own < 31 }
 {
-    own.len() < LARGE_LINES - 1 || pages.is_speculating(space)
+    own.len() < MOST_OWN || pages.is_speculating(space)
 }
 
 /// A page that has own lines and isn't alone gets a new frame with its lines, and its entry names that. The units after it are there.

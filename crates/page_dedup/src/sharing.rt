@@ -1,6 +1,6 @@
 //! One page, or all of a space.
 
-ghost use Rattle.std.specs.Prelude.{◌≡◌, ◌+◌, ◌<◌, false, true, IsSome, OnOk, is_some};
+ghost use Rattle.std.specs.Prelude.{◌≡◌, ◌+◌, ◌<◌, false, true, IsSome, OnOk};
 ghost use Rattle.sizes.specs.declared.TheConstants.{PAGE_END};
 ghost use Rattle.std.specs.Option.{option_map};
 ghost use Rattle.ledger.specs.Changes.{is_origin_here};
@@ -15,23 +15,8 @@ ghost use Rattle.translation_cache.specs.Translations.{flushed};
 
 use crate::error::DedupError;
 use crate::marks::{MARKS, has_mark, mark, mark_frames};
-use overlay_memory::OverlayMemory;
-
-/// The most lines that a page may have of its own on the frame of another one.
-const MOST_APART: u32 = 31;
-
-/// How many lines a page has.
-const LINES: u32 = 64;
-
-// Whether a page is there.
-fn has_page(mem: &OverlayMemory, space: u16, page: u64) -> bool
-    ensures { result ≡ is_some (page_in (state_of mem.now) space page) }
-{
-    match mem.next_page(space, page) {
-        Some(found) => found == page,
-        None => false,
-    }
-}
+use overlay_memory::{MOST_OWN, OverlayMemory};
+use sizes::PAGE_LINES;
 
 // Whether a page is on a frame, which isn't the zero frame.
 fn is_on(mem: &OverlayMemory, space: u16, page: u64, frame: u32) -> bool
@@ -107,7 +92,7 @@ pub fn deduplicate(
     if is_frame_here(mem, space, from, other) {
         return Err(DedupError::FrameHere);
     }
-    match mem.rebase_if_alike(space, page, from, other, LINES) {
+    match mem.rebase_if_alike(space, page, from, other, PAGE_LINES as u32) {
         Some(lines) => Err(DedupError::NotAlike(lines)),
         None => Ok(()),
     }
@@ -144,7 +129,7 @@ fn share_one(
     ensures low { page < PAGE_END }
 {
     let _here = mem.has_space(space);
-    if !has_page(mem, from, page) {
+    if !mem.has_page(from, page) {
         return false;
     }
     if !mem.is_alone(space, page) {
@@ -155,7 +140,7 @@ fn share_one(
     }
     let own = mem.frame_of(space, page);
     let theirs = mem.frame_of(from, page);
-    match mem.rebase_if_alike(space, page, from, page, MOST_APART) {
+    match mem.rebase_if_alike(space, page, from, page, MOST_OWN) {
         Some(_) => return false,
         None => {}
     }

@@ -17,7 +17,7 @@ use Rattle.page_dedup.proofs.sharing.share_one.Goals.{After-mark-2}
 pub returns-then-not-has_page-clause-shares : goal.returns-then-not-has_page-clause-shares
 returns-then-not-has_page-clause-shares c = (
   shares_absent (state_of c.args.mem.now) c.args.space c.args.from c.args.page
-      (none_by (page_in (state_of c.args.mem.now) c.args.from c.args.page) (sym c.has_page.ensures ∙ c.if-not-has_page.true)),
+      (none_by (page_in (state_of c.args.mem.now) c.args.from c.args.page) (sym c.has_page.ensures.there ∙ c.if-not-has_page.true)),
   refl,
 )
 
@@ -53,7 +53,7 @@ returns-in-Some-clause-low c = page_low c.args.mem.now.pages c.has_space-here.en
 
 pub returns-clause-shares : goal.returns-clause-shares
 returns-clause-shares c = (
-  shares_can (state_of c.args.mem.now) c.args.space c.args.from c.args.page (sym c.has_page.ensures ∙ c.if-not-has_page.false) c.in-None.ensures.0,
+  shares_can (state_of c.args.mem.now) c.args.space c.args.from c.args.page (sym c.has_page.ensures.there ∙ c.if-not-has_page.false) c.in-None.ensures.0,
   c.in-None.ensures.1,
 )
 
