@@ -16,6 +16,7 @@ ghost use Rattle.space_ledger.specs.Calls.{IsNextOwn, NamesOnce};
 ghost use Rattle.overlay_pages.specs.Lines.{line_in_page};
 ghost use Rattle.overlay_pages.specs.State.{books, memory_of};
 ghost use Rattle.overlay_pages.specs.Changes.{AreAbsent, Fits, HasCopyRoom, HasShareRoom, IsPlaced, committed, copied, discarded, frame_but_zero, is_writable, limit_of, units_of, with_shared, with_written, with_zeros};
+ghost use Rattle.overlay_pages.specs.Spots.{IsFoundPage, IsFoundPageAt};
 ghost use Rattle.overlay_pages.specs.View.{HasOwnPlace, IsJoined, place_at};
 ghost use Rattle.overlay_pages.specs.Calls.{AreMapped, AreShared, AreZeros, AwaitBare, AwaitsLike, HasSettledBlocks, IsEmptyState, IsNextPage, KeepsWholeBlocks, MovesFewBeside, NoneAwaitsBelow, entries_in};
 ghost use Rattle.overlay_memory.specs.ApartLaws.{ArePagesApart};
@@ -29,6 +30,7 @@ ghost use Rattle.overlay_memory.specs.View.{AreOverlaysSmall, AreTrue, NoneAwait
 ghost use Rattle.translation_cache.specs.Bare.{bare};
 ghost use Rattle.translation_cache.specs.Formed.{IsFormed};
 ghost use Rattle.translation_cache.specs.Translations.{flushed, no_translations, with_hits};
+ghost use Rattle.overlay_pages.specs.declared.settling.TheConstants.{MOST_OWN};
 ghost use Rattle.overlay_memory.specs.contracts.memory.OverlayMemory.{the_row};
 
 use crate::comparing::lines_apart;
@@ -37,12 +39,11 @@ use crate::fronts::Fronts;
 use crate::reading::{is_in_line, line_of, load_line, read_bytes};
 use crate::removing::{remove_pages, unmap_pages};
 use crate::room::{shortage_by, shortage_of};
-use crate::settling::MOST_OWN;
 use crate::storing::{put_line, store_line, write_pages};
 use crate::translating::translate_access;
 use bitflags::Flags;
 use overlay_bits::Bits;
-use overlay_pages::OverlayPages;
+use overlay_pages::{FoundPage, MOST_OWN, OverlayPages};
 use ovl_io::Perms;
 use page_table::PageTable;
 use sizes::{FRAME_UNITS, PAGE_BYTES, PAGE_LINES};
@@ -398,6 +399,27 @@ impl OverlayMemory {
         self.pages.frame_of(space, page)
     }
 
+    /// A page that is there, with all that `rebase_found` has to know. Costs a look-up of the page, and one of its overlay.
+    pub fn find_page(&self, space: u16, page: u64) -> FoundPage
+        requires there { IsSome (page_in (state_of self.now) space page) }
+        ensures found { IsFoundPageAt self.now.pages space page result }
+    {
+        match self.pages.find_page(space, page) {
+            Some(found) => found,
+            None => unreachable!(),
+        }
+    }
+
+    /// The number of the frame of a page that was found. None exactly where it is on the zero frame. Costs a step.
+    pub fn frame_of_found(&self, page: &FoundPage) -> Option<u32>
+        requires { IsFoundPage self.now.pages.table page.now }
+        ensures frame { option_map (λ x. frame_but_zero (state_of self.now).zero_frame x.entry.frame)
+            (page_in (state_of self.now) page.now.space page.now.page) ≡ Some result }
+        ensures low { IfSome result (λ frame. frame < MOST_FRAMES) }
+    {
+        self.pages.frame_of_found(page)
+    }
+
     /// The permissions of a page that is there. Costs a look-up.
     pub fn perms_of(&self, space: u16, page: u64) -> Perms
         requires there { IsSome (page_in (state_of self.now) space page) }
@@ -479,38 +501,36 @@ impl OverlayMemory {
         ensures rebased { HasRebased (state_of self.old) (state_of self.new) space page from other }
         ensures translations { translations_of self.new ≡ flushed space (translations_of self.old) }
     {
-        match self.rebase_if_alike(space, page, from, other, PAGE_LINES as u32) {
+        let found = self.find_page(space, page);
+        let theirs = self.find_page(from, other);
+        match self.rebase_found(&found, &theirs, PAGE_LINES as u32) {
             None => {}
             Some(_) => unreachable!(),
         }
     }
 
-    /// As `rebase_page`, where it isn't known how many lines are apart: None where it is done. Else how many they are, which are more than
-    /// 31; of more than `most`, at least 31, it may tell fewer, and more than `most`. The comparison ends there.
-    pub fn rebase_if_alike(
-        &mut self,
-        space: u16,
-        page: u64,
-        from: u16,
-        other: u64,
-        most: u32,
-    ) -> Option<u32>
-        requires there { IsSome (page_in (state_of self.old) space page) }
-        requires theirs { IsSome (page_in (state_of self.old) from other) }
-        requires settled { (space_in (state_of self.old) space).speculating ≡ false }
-        requires settled_from { (space_in (state_of self.old) from).speculating ≡ false }
-        requires none_awaits { NoneAwaits (state_of self.old) space }
-        requires apart { IsAloneAway (state_of self.old) space page from other }
-        requires most { 31 ≤ most }
-        ensures { RebasesAlike self.old self.new space page from other most result }
+    /// As `rebase_page`, of pages that were found, where it isn't known how many lines are apart: None where it is done. Else how many they
+    /// are, which are more than 31; of more than `most`, at least 31, it may tell fewer, and more than `most`. The comparison ends there.
+    /// Looks no page up.
+    pub fn rebase_found(&mut self, page: &FoundPage, theirs: &FoundPage, most: u32) -> Option<u32>
+        requires found { IsFoundPage self.old.pages.table page.now }
+        requires theirs { IsFoundPage self.old.pages.table theirs.now }
+        requires settled { (space_in (state_of self.old) page.now.space).speculating ≡ false }
+        requires settled_from { (space_in (state_of self.old) theirs.now.space).speculating ≡ false }
+        requires none_awaits { NoneAwaits (state_of self.old) page.now.space }
+        requires apart { IsAloneAway (state_of self.old) page.now.space page.now.page
+            theirs.now.space theirs.now.page }
+        requires most { MOST_OWN ≤ most }
+        ensures { RebasesAlike self.old self.new page.now.space page.now.page
+            theirs.now.space theirs.now.page most result }
     {
-        let lines = lines_apart(&self.pages, space, page, from, other, most);
+        let lines = lines_apart(&self.pages, page, theirs, most);
         if lines.len() > MOST_OWN {
             return Some(lines.len());
         }
         self.fronts.clear();
-        self.pages.rebase_page(space, page, from, other, lines);
-        self.cache.flush(space);
+        self.pages.rebase_found(page, theirs, lines);
+        self.cache.flush(page.space);
         None
     }
 

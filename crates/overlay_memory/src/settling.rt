@@ -12,14 +12,8 @@ ghost use Rattle.translation_cache.specs.Bare.{bare};
 
 use crate::translating::cached_of;
 use overlay_bits::Bits;
-use overlay_pages::OverlayPages;
+use overlay_pages::{LARGE_LINES, MOST_OWN, OverlayPages};
 use translation_cache::Cache;
-
-/// As many own lines as make a segment as large as a frame.
-pub const LARGE_LINES: u32 = 32;
-
-/// The most own lines of a page in a space that isn't speculating.
-pub const MOST_OWN: u32 = LARGE_LINES - 1;
 
 /// Whether a page that is there, and was stored to, is settled: it has 32 own lines or more, its space isn't speculating, and it isn't
 /// alone.

@@ -26,6 +26,7 @@ pub mod Adding
 pub mod Committing
 pub mod SharedPages
 pub mod SharedRuns
+pub mod Kept
 pub mod GivenLines
 pub mod Rebased
 pub mod OwnPlaces

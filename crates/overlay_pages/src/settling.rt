@@ -18,6 +18,12 @@ use overlay_mapping_table::Entry;
 use segment_store::SegmentStore;
 use space_ledger::SpaceLedger;
 
+/// As many own lines as make a segment as large as a frame.
+pub const LARGE_LINES: u32 = 32;
+
+/// The most own lines of a page in a space that isn't speculating: its segment is smaller than a frame.
+pub const MOST_OWN: u32 = LARGE_LINES - 1;
+
 /// The frame of a page that is there.
 pub(crate) fn frame_of(ledger: &SpaceLedger, space: u16, page: u64) -> u32
     requires { IsSome (page_in ledger.now space page) }
