@@ -1,5 +1,5 @@
 use Rattle.std.proofs.Common.{◌≡◌, ℕ, ◌+◌, ◌<◌, ◌≤◌, ◌⊎◌, inl, inr, true, false, cond, nat_eq, List, length, Some, sym, ap, subst, ◌∙◌, refl, arith, true≢false}
-use Rattle.std.specs.Prelude.{IfSome, IsSome, is_some}
+use Rattle.std.specs.Prelude.{IfSome, IsSome}
 use Rattle.std.proofs.lemmas.Bool.Decides.{nat_tests}
 use Rattle.std.specs.Option.{option_map}
 use Rattle.std.specs.FinMap.{empty, get}
@@ -14,9 +14,7 @@ use Rattle.ledger.specs.Units.{units}
 use Rattle.overlay_pages.specs.Changes.{IsAway, IsRebased, SeesFrame, rebased_page}
 use Rattle.overlay_pages.specs.State.{PageState, SpaceState, State, base_of, books, held_page, memory_of, seen_page}
 use Rattle.overlay_pages.specs.View.{MemoryView, state_of}
-use Rattle.overlay_pages.specs.ViewLaws.{outside_line, state_page_some}
-use Rattle.overlay_pages.specs.Spots.{IsFoundPage}
-use Rattle.overlay_pages.specs.declared.spots.FoundPage.{FoundPage}
+use Rattle.overlay_pages.specs.ViewLaws.{outside_line}
 use Rattle.overlay_memory.specs.PageLaws.{HasPage, has_page, held_there, some_is}
 use Rattle.overlay_memory.specs.Pieces.{KeepsAllElse}
 use Rattle.overlay_memory.specs.Rebased.{AreAlikeBut, HasRebased, TellsApart, apart_in}
@@ -110,10 +108,6 @@ module _ (old : State) (s p from other : ℕ) (there : IsSome (page_in old s p))
 
     pub rebased_translated : (t : Translations Cached) → (space_in old s).awaiting ≡ empty → AreTranslated old t → AreTranslated new (flushed s t)
     rebased_translated t settled all = put_translated old new s p page t new_is (there_space old s p one.x one.there) settled few all
-
--- a page that was found is there
-pub there_found : (view : MemoryView) (found : FoundPage) → IsFoundPage view.table found → IsSome (page_in (state_of view) found.space found.page)
-there_found view found is = state_page_some view found.space found.page ∙ ap is_some is.there
 
 -- What is seen of it but for these lines stands in the other one's frame: where a line isn't own it is that of the frame.
 pub sees_frame : (view : MemoryView) (from other : ℕ) (but : List ℕ) (x y : PageState) → page_in (state_of view) from other ≡ Some y → AreAlikeBut but x y → SeesFrame but x y

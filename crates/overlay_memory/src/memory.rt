@@ -23,7 +23,7 @@ ghost use Rattle.overlay_memory.specs.ApartLaws.{ArePagesApart};
 ghost use Rattle.overlay_memory.specs.Access.{FitsStored, IsFirstAbsent, IsStored, Places, Reads, Stores, line_address};
 ghost use Rattle.overlay_memory.specs.Code.{IsCodeLine};
 ghost use Rattle.overlay_memory.specs.Pieces.{emptied_space};
-ghost use Rattle.overlay_memory.specs.Rebased.{CanRebase, HasRebased, IsAloneAway, RebasesAlike};
+ghost use Rattle.overlay_memory.specs.Rebased.{CanCompare, CanRebase, HasRebased, RebasesAlike};
 ghost use Rattle.overlay_memory.specs.Room.{FallsShort};
 ghost use Rattle.overlay_memory.specs.Translated.{access_at, after_access};
 ghost use Rattle.overlay_memory.specs.View.{AreOverlaysSmall, AreTrue, NoneAwaits, state_of, translations_of, with_region_line};
@@ -515,10 +515,7 @@ impl OverlayMemory {
     pub fn rebase_found(&mut self, page: &FoundPage, theirs: &FoundPage, most: u32) -> Option<u32>
         requires found { IsFoundPage self.old.pages.table page.now }
         requires theirs { IsFoundPage self.old.pages.table theirs.now }
-        requires settled { (space_in (state_of self.old) page.now.space).speculating ≡ false }
-        requires settled_from { (space_in (state_of self.old) theirs.now.space).speculating ≡ false }
-        requires none_awaits { NoneAwaits (state_of self.old) page.now.space }
-        requires apart { IsAloneAway (state_of self.old) page.now.space page.now.page
+        requires asked { CanCompare (state_of self.old) page.now.space page.now.page
             theirs.now.space theirs.now.page }
         requires most { MOST_OWN ≤ most }
         ensures { RebasesAlike self.old self.new page.now.space page.now.page

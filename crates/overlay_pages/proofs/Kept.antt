@@ -3,7 +3,7 @@ use Rattle.std.proofs.Math.Seq.{get_or-append_seam}
 use Rattle.std.proofs.lemmas.List.{append-nil, length-append, length-set}
 use Rattle.overlay_bits.specs.Laws.{lines_at, rank_of_next}
 use Rattle.overlay_bits.specs.Lines.{lines_before, lines_behind, rank_of}
-use Rattle.overlay_pages.proofs.Stores.{AreLines, has_line}
+use Rattle.overlay_pages.proofs.Stores.{AreLines}
 use Rattle.overlay_pages.proofs.Books.{page_in}
 use Rattle.overlay_pages.proofs.Views.{AreKept, FoundLine, PageState, State, by_rank, line_in_page}
 

@@ -29,6 +29,7 @@ pub mod SharedRuns
 pub mod Kept
 pub mod GivenLines
 pub mod Rebased
+pub mod Copying
 pub mod OwnPlaces
 pub mod Laws
 pub mod Needs

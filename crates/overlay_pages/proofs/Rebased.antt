@@ -1,4 +1,4 @@
-use Rattle.overlay_pages.proofs.Common.{◌≡◌, ℕ, ◌+◌, ◌*◌, ◌<◌, ◌≤◌, ◌||◌, true, false, cond, nat_eq, List, [], Option, Some, None, IfSome, IsSome, is_some, length, drop, refl, true≢false, sym, ap, subst, ◌∙◌, arith, inl, inr, none-some, same_Some, nat_tests, option_and_then, option_map, empty}
+use Rattle.overlay_pages.proofs.Common.{◌≡◌, ℕ, ◌+◌, ◌<◌, ◌≤◌, ◌||◌, true, false, cond, nat_eq, List, [], Option, Some, None, IfSome, IsSome, is_some, length, refl, true≢false, sym, ap, subst, ◌∙◌, arith, inl, inr, none-some, same_Some, nat_tests, option_and_then, option_map, empty}
 use Rattle.overlay_pages.proofs.Stores.{Entry, Store, IsFrame, frame_inside, frame_line, KeepsFrame, has_line}
 use Rattle.page_table.specs.declared.entry.PageEntry.{PageEntry}
 use Rattle.overlay_pages.proofs.Books.{Ledger, has_origin, holding_at, is_alone, is_unused, with_page, without_page, class, class_most, units, class_none, frame_for, units_changed, alone_is, alone_same, are, by_place, by_test, not_true, origin_with, unused_from, unused_parts, books_put_page, books_there, changed_there, keeps_page_put, keeps_page_set, KeepsSpaces, map_from, map_some, map_twice, page_put_here, page_put_beside, page_over, set_some, there_space, page_in, put_page, set_page, space_in, altered_page, LedgerView, PageView, frame_at, given_as, given_up, holding_of, ledger_of, lines_of, overlay_at, origin_of, with_frame}
@@ -6,7 +6,7 @@ use Rattle.overlay_pages.proofs.Views.{page_lines, line_at, lines_same, line_in_
 use Rattle.ledger.specs.PlaceLaws.{gone_other}
 use Rattle.space_ledger.specs.Calls.{IsFreeFor}
 use Rattle.space_ledger.specs.ViewLaws.{frames_of}
-use Rattle.overlay_pages.proofs.Steps.{IsOthers, alone_other, seen_bare, segments_bare, stepped}
+use Rattle.overlay_pages.proofs.Steps.{IsOthers, alone_other, segments_bare, stepped}
 use Rattle.overlay_pages.proofs.Leaving.{LeavesStore}
 use Rattle.overlay_pages.proofs.Committing.{page_frame}
 use Rattle.overlay_pages.proofs.Joining.{Has, page_with}
@@ -157,13 +157,6 @@ module _ (a : MemoryView) (s p from other : ℕ) (x y : PageView) (is : IsJoined
 
       pub fewer : units_of (state_of (view_of store table)) + 16 ≡ units_of (state_of a)
       fewer = omega (arith, units_now, ap units (state_books (view_of store table)), ap units (state_books a))
-
--- a page whose frame, or entry, is known is there
-pub frame_some : (v : LedgerView) (s p frame : ℕ) → frame_at v s p ≡ Some frame → IsSome (page_in v s p)
-frame_some v s p frame is = sym (map_some (λ (x : PageView). x.entry.frame) (page_in v s p)) ∙ ap is_some is
-
-pub entry_some : (v : LedgerView) (s p : ℕ) (e : PageEntry) → Some e ≡ option_map (λ (x : PageView). x.entry) (page_in v s p) → IsSome (page_in v s p)
-entry_some v s p e is = sym (map_some (λ (x : PageView). x.entry) (page_in v s p)) ∙ ap is_some (sym is)
 
 -- The same of a page that is there, with the frame that is known.
 module _ (a : MemoryView) (s p from other frame : ℕ) (is : IsJoined a) (there : IsSome (page_in a.table s p)) (bare : overlay_at a.table s p ≡ None)

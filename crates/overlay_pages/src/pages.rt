@@ -18,7 +18,7 @@ ghost use Rattle.overlay_pages.specs.Lines.{line_in_page, lines_of_bytes};
 ghost use Rattle.overlay_pages.specs.State.{PageState, base_of, books, memory_of};
 ghost use Rattle.overlay_pages.specs.Changes.{AreAbsent, Fits, HasCopyRoom, HasShareRoom, IsAway, IsPlaced, IsRebased, SeesFrame, brought, committed, copied, discarded, frame_but_zero, is_writable, limit_of, units_of, whole_page, with_brought, with_shared, with_written, with_zeros};
 ghost use Rattle.overlay_pages.specs.View.{HasOwnPlace, IsJoined, place_at, state_of};
-ghost use Rattle.overlay_pages.specs.Spots.{FindsLine, FindsPage, IsBroughtTo, IsFound, IsFoundPage};
+ghost use Rattle.overlay_pages.specs.Spots.{FindsLine, FindsPage, IsBroughtTo, IsFound, IsFoundPage, IsFoundPageAt};
 ghost use Rattle.overlay_pages.specs.Calls.{AreMapped, AreShared, AreZeros, AwaitBare, AwaitsLike, HasSettledBlocks, IsEmptyState, IsNextPage, KeepsWholeBlocks, MovesFewBeside, NoneAwaitsBelow, RisesBy, entries_in, with_line_at_place};
 ghost use Rattle.overlay_pages.specs.declared.settling.TheConstants.{MOST_OWN};
 ghost use Rattle.overlay_pages.specs.contracts.pages.OverlayPages.{the_row};
@@ -557,9 +557,35 @@ impl OverlayPages {
             (λ x. IsPlaced (state_of self.old) (state_of self.new) space page (λ frame. copied frame x)) }
         ensures few { MovesFewBeside space page self.old.table self.new.table }
     {
-        let overlay = self.ledger.overlay(space, page);
-        match overlay {
-            Some(overlay) => copy_commit(&mut self.store, &mut self.ledger, space, page, overlay),
+        match self.find_page(space, page) {
+            Some(found) => {
+                self.settle_found(&found);
+            }
+            None => unreachable!(),
+        }
+    }
+
+    /// As `copy_commit_page`, of a page that was found. Answers it as it is found then. Looks nothing up but what changes.
+    pub fn settle_found(&mut self, page: &FoundPage) -> FoundPage
+        requires found { IsFoundPage self.old.table page.now }
+        requires overlaid { IfSome (page_in (state_of self.old) page.now.space page.now.page)
+            (λ x. 0 < length x.own) }
+        requires shared { is_alone (books (state_of self.old)) page.now.space page.now.page ≡ false }
+        requires none_awaits { (space_in (state_of self.old) page.now.space).awaiting ≡ map.empty }
+        requires room { HasCopyRoom (state_of self.old) page.now.space page.now.page }
+        ensures placed { IfSome (page_in (state_of self.old) page.now.space page.now.page)
+            (λ x. IsPlaced (state_of self.old) (state_of self.new) page.now.space page.now.page
+            (λ frame. copied frame x)) }
+        ensures found { IsFoundPageAt self.new page.now.space page.now.page result }
+        ensures few { MovesFewBeside page.now.space page.now.page self.old.table self.new.table }
+    {
+        let (space, number) = (page.space, page.page);
+        match page.overlay() {
+            Some(overlay) => {
+                let (store, ledger) = (&mut self.store, &mut self.ledger);
+                let frame = copy_commit(store, ledger, space, number, page.entry(), overlay);
+                page.on_frame(frame, self.writes_frame(space, frame))
+            }
             None => unreachable!(),
         }
     }

@@ -141,6 +141,30 @@ impl FoundPage {
         }
     }
 
+    /// It on another frame, without own lines.
+    #[inline]
+    pub(crate) fn on_frame(&self, frame: u32, in_frame: bool) -> FoundPage
+        ensures { result ≡ record {
+          space = self.now.space;
+          page = self.now.page;
+          perms = self.now.perms;
+          frame = frame;
+          own = [];
+          block = self.now.block;
+          in_frame = in_frame;
+        } }
+    {
+        FoundPage {
+            space: self.space,
+            page: self.page,
+            perms: self.perms,
+            frame,
+            own: Bits::empty(),
+            block: self.block,
+            in_frame,
+        }
+    }
+
     /// It with another line of its own, in an overlay at a block.
     #[inline(always)]
     pub(crate) fn with(self, line: u8, block: Block) -> FoundPage

@@ -1,4 +1,4 @@
-use Rattle.overlay_pages.proofs.Common.{None, sym, ◌∙◌}
+use Rattle.overlay_pages.proofs.Common.{None, ◌∙◌}
 use Rattle.overlay_pages.proofs.Views.{view_of}
 use Rattle.overlay_pages.proofs.Joining.{bare_state, page_with}
 use Rattle.overlay_pages.proofs.overlays.drop_overlay.Goals as goal

@@ -1,4 +1,4 @@
-use Rattle.overlay_pages.proofs.Common.{◌∙◌, ap, sym, ◌≤◌, length, subst, arith}
+use Rattle.overlay_pages.proofs.Common.{◌∙◌, sym, ◌≤◌, length, subst}
 use Rattle.overlay_pages.proofs.Stores.{capacity_of}
 use Rattle.overlay_pages.proofs.Views.{by_rank}
 use Rattle.overlay_pages.proofs.GivenLines.{all_filled, fill_absent, fill_fits, fill_fits_kept, fill_given, fill_low, fill_there, none_filled, one_filled}

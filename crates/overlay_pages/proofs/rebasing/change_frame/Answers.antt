@@ -1,6 +1,7 @@
 use Rattle.overlay_pages.proofs.Views.{view_of}
 use Rattle.overlay_pages.proofs.Leaving.{gives_frame}
-use Rattle.overlay_pages.proofs.Rebased.{change_bare, change_free, change_inside, change_some, change_state, change_taken, change_there, change_units, entry_some, frame_some}
+use Rattle.overlay_pages.proofs.Rebased.{change_bare, change_free, change_inside, change_some, change_state, change_taken, change_there, change_units}
+use Rattle.overlay_pages.proofs.Committing.{entry_some, frame_some}
 use Rattle.overlay_pages.proofs.rebasing.change_frame.Goals as goal
 
 pub replace_frame-requires-clause-inside : goal.replace_frame-requires-clause-inside

@@ -1,8 +1,6 @@
-use Rattle.overlay_pages.proofs.Common.{ℕ, IsSome}
-use Rattle.overlay_pages.proofs.Books.{page_in}
-use Rattle.overlay_pages.proofs.Views.{FoundPage, IsFoundPage, state_of, view_of}
+use Rattle.overlay_pages.proofs.Views.{state_of, view_of}
 use Rattle.overlay_pages.proofs.FoundLines.{found_frame, found_there}
-use Rattle.overlay_pages.proofs.Rebased.{after_alone, after_awaits, after_away, after_bare, after_entry, after_framed, after_theirs, after_there, rebase_fits, rebase_state}
+use Rattle.overlay_pages.proofs.Rebased.{after_alone, after_awaits, after_away, after_entry, after_framed, rebase_fits, rebase_state}
 use Rattle.overlay_pages.proofs.rebasing.rebase.Goals as goal
 
 pub drop_overlay-requires-clause-overlay : goal.drop_overlay-requires-clause-overlay

@@ -1,9 +1,8 @@
-use Rattle.std.proofs.Common.{◌≡◌, None, Some, true, false, refl, sym, ◌∙◌}
+use Rattle.std.proofs.Common.{◌≡◌, None, Some, false, refl, sym, ◌∙◌}
 use Rattle.ledger.specs.Changes.{is_origin_here}
-use Rattle.ledger.specs.Ledger.{is_alone}
 use Rattle.overlay_memory.specs.FoundLaws.{alone_at, of_found, to_found}
-use Rattle.overlay_memory.specs.Rebased.{IsAloneAway, RebasesAlike}
-use Rattle.overlay_memory.specs.View.{NoneAwaits, state_of}
+use Rattle.overlay_memory.specs.Rebased.{CanCompare, RebasesAlike}
+use Rattle.overlay_memory.specs.View.{state_of}
 use Rattle.overlay_pages.specs.State.{books}
 use Rattle.space_maps.specs.Spaces.{space_in}
 use Rattle.page_dedup.proofs.Walking.{told_exactly}
@@ -28,28 +27,18 @@ returns-then-is_frame_here-clause-deduplicates c = (
   refl,
 )
 
-pub rebase_found-requires-clause-settled : goal.rebase_found-requires-clause-settled
-rebase_found-requires-clause-settled c =
+pub rebase_found-requires-clause-asked : goal.rebase_found-requires-clause-asked
+rebase_found-requires-clause-asked c =
     to_found c.args.mem.now.pages c.find_page-found.result c.find_page-theirs.result c.args.space c.args.page c.args.from c.args.other c.find_page-found.ensures.found c.find_page-theirs.ensures.found
-    (λ s p f o. (space_in (state_of c.args.mem.now) s).speculating ≡ false) c.requires.settled
-
-pub rebase_found-requires-clause-settled_from : goal.rebase_found-requires-clause-settled_from
-rebase_found-requires-clause-settled_from c =
-    to_found c.args.mem.now.pages c.find_page-found.result c.find_page-theirs.result c.args.space c.args.page c.args.from c.args.other c.find_page-found.ensures.found c.find_page-theirs.ensures.found
-    (λ s p f o. (space_in (state_of c.args.mem.now) f).speculating ≡ false) c.requires.settled_from
-
-pub rebase_found-requires-clause-none_awaits : goal.rebase_found-requires-clause-none_awaits
-rebase_found-requires-clause-none_awaits c =
-    to_found c.args.mem.now.pages c.find_page-found.result c.find_page-theirs.result c.args.space c.args.page c.args.from c.args.other c.find_page-found.ensures.found c.find_page-theirs.ensures.found
-    (λ s p f o. NoneAwaits (state_of c.args.mem.now) s) c.requires.none_awaits
-
-pub rebase_found-requires-clause-apart : goal.rebase_found-requires-clause-apart
-rebase_found-requires-clause-apart c =
-    to_found c.args.mem.now.pages c.find_page-found.result c.find_page-theirs.result c.args.space c.args.page c.args.from c.args.other c.find_page-found.ensures.found c.find_page-theirs.ensures.found
-    (IsAloneAway (state_of c.args.mem.now)) (record {
-      alone = sym (alone_at c.args.mem.now.pages c.find_page-found.result c.args.space c.args.page c.find_page-found.ensures.found c.requires.settled c.is_alone.result c.is_alone.ensures) ∙ c.if-not-is_alone.false;
-      away = (sym (of_found c.args.mem.now.pages c.find_page-found.result c.find_page-theirs.result c.args.space c.args.page c.args.from c.args.other c.find_page-found.ensures.found c.find_page-theirs.ensures.found
-          (λ s p f o. c.is_frame_here.result ≡ is_origin_here (books (state_of c.args.mem.now)) c.args.space f o) c.is_frame_here.ensures) ∙ c.if-is_frame_here.false);
+    (CanCompare (state_of c.args.mem.now)) (record {
+      settled = c.requires.settled;
+      settled_from = c.requires.settled_from;
+      none_awaits = c.requires.none_awaits;
+      apart = record {
+        alone = sym (alone_at c.args.mem.now.pages c.find_page-found.result c.args.space c.args.page c.find_page-found.ensures.found c.requires.settled c.is_alone.result c.is_alone.ensures) ∙ c.if-not-is_alone.false;
+        away = (sym (of_found c.args.mem.now.pages c.find_page-found.result c.find_page-theirs.result c.args.space c.args.page c.args.from c.args.other c.find_page-found.ensures.found c.find_page-theirs.ensures.found
+            (λ s p f o. c.is_frame_here.result ≡ is_origin_here (books (state_of c.args.mem.now)) c.args.space f o) c.is_frame_here.ensures) ∙ c.if-is_frame_here.false);
+      };
     })
 
 pub returns-in-Some-clause-deduplicates : goal.returns-in-Some-clause-deduplicates

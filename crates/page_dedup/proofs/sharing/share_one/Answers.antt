@@ -1,17 +1,17 @@
-use Rattle.std.proofs.Common.{◌≡◌, None, Some, true, false, refl, sym, ap, subst₂, ◌∙◌}
+use Rattle.std.proofs.Common.{None, Some, true, refl, sym, ap, subst₂, ◌∙◌}
 use Rattle.ledger.specs.Ledger.{Holding}
 use Rattle.ledger.specs.RowLaws.{rebased_there}
 use Rattle.overlay_memory.specs.Joined.{page_low}
 use Rattle.overlay_memory.specs.FoundLaws.{alone_at, framed_at, of_found, to_found}
-use Rattle.overlay_memory.specs.Rebased.{IsAloneAway, RebasesAlike, apart_in}
+use Rattle.overlay_memory.specs.Rebased.{CanCompare, RebasesAlike, apart_in}
 use Rattle.overlay_memory.specs.Translated.{keeps_flushed}
-use Rattle.overlay_memory.specs.View.{NoneAwaits, state_of}
+use Rattle.overlay_memory.specs.View.{state_of}
 use Rattle.overlay_pages.specs.State.{books}
 use Rattle.page_dedup.specs.Marked.{AreMarks, with_mark}
 use Rattle.page_dedup.proofs.Marking.{IsOn, marked_after, room_in, told_on}
 use Rattle.page_dedup.proofs.Walking.{shares_absent, shares_can, shares_here, shares_many, shares_shared}
 use Rattle.space_maps.specs.Options.{none_by}
-use Rattle.space_maps.specs.Spaces.{page_in, space_in}
+use Rattle.space_maps.specs.Spaces.{page_in}
 use Rattle.page_dedup.proofs.sharing.share_one.Goals as goal
 use Rattle.page_dedup.proofs.sharing.share_one.Goals.{After-mark-2}
 
@@ -44,27 +44,17 @@ frame_of_found-frame-requires c = c.find_page-theirs.ensures.found.is
 pub frame_of_found-own-requires : goal.frame_of_found-own-requires
 frame_of_found-own-requires c = c.find_page-found.ensures.found.is
 
-pub rebase_found-requires-clause-settled : goal.rebase_found-requires-clause-settled
-rebase_found-requires-clause-settled c =
+pub rebase_found-requires-clause-asked : goal.rebase_found-requires-clause-asked
+rebase_found-requires-clause-asked c =
     to_found c.args.mem.now.pages c.find_page-found.result c.find_page-theirs.result c.args.space c.args.page c.args.from c.args.page c.find_page-found.ensures.found c.find_page-theirs.ensures.found
-    (λ s p f o. (space_in (state_of c.args.mem.now) s).speculating ≡ false) c.requires.settled
-
-pub rebase_found-requires-clause-settled_from : goal.rebase_found-requires-clause-settled_from
-rebase_found-requires-clause-settled_from c =
-    to_found c.args.mem.now.pages c.find_page-found.result c.find_page-theirs.result c.args.space c.args.page c.args.from c.args.page c.find_page-found.ensures.found c.find_page-theirs.ensures.found
-    (λ s p f o. (space_in (state_of c.args.mem.now) f).speculating ≡ false) c.requires.settled_from
-
-pub rebase_found-requires-clause-none_awaits : goal.rebase_found-requires-clause-none_awaits
-rebase_found-requires-clause-none_awaits c =
-    to_found c.args.mem.now.pages c.find_page-found.result c.find_page-theirs.result c.args.space c.args.page c.args.from c.args.page c.find_page-found.ensures.found c.find_page-theirs.ensures.found
-    (λ s p f o. NoneAwaits (state_of c.args.mem.now) s) c.requires.none_awaits
-
-pub rebase_found-requires-clause-apart : goal.rebase_found-requires-clause-apart
-rebase_found-requires-clause-apart c =
-    to_found c.args.mem.now.pages c.find_page-found.result c.find_page-theirs.result c.args.space c.args.page c.args.from c.args.page c.find_page-found.ensures.found c.find_page-theirs.ensures.found
-    (IsAloneAway (state_of c.args.mem.now)) (record {
-      alone = sym (alone_at c.args.mem.now.pages c.find_page-found.result c.args.space c.args.page c.find_page-found.ensures.found c.requires.settled c.is_alone.result c.is_alone.ensures) ∙ c.if-not-is_alone.false;
-      away = sym c.is_marked.ensures ∙ c.if-is_marked.false;
+    (CanCompare (state_of c.args.mem.now)) (record {
+      settled = c.requires.settled;
+      settled_from = c.requires.settled_from;
+      none_awaits = c.requires.none_awaits;
+      apart = record {
+        alone = sym (alone_at c.args.mem.now.pages c.find_page-found.result c.args.space c.args.page c.find_page-found.ensures.found c.requires.settled c.is_alone.result c.is_alone.ensures) ∙ c.if-not-is_alone.false;
+        away = sym c.is_marked.ensures ∙ c.if-is_marked.false;
+      };
     })
 
 pub returns-then-is_marked-clause-shares : goal.returns-then-is_marked-clause-shares

@@ -5,10 +5,11 @@ use Rattle.ledger.specs.Ledger.{is_alone}
 use Rattle.overlay_pages.specs.Spots.{IsFoundPage}
 use Rattle.overlay_pages.specs.State.{books}
 use Rattle.overlay_pages.specs.View as seen
+use Rattle.overlay_memory.specs.FoundLaws.{there_found}
 use Rattle.overlay_memory.specs.Rebased.{HasRebased, TellsApart, apart_in}
 use Rattle.overlay_memory.specs.View.{cached_view, state_of}
 use Rattle.space_maps.specs.Spaces.{page_in, space_in}
-use Rattle.overlay_memory.proofs.Rebasing.{has_rebased, is_away, rebased_translated, sees_frame, there_found, told_few, told_many}
+use Rattle.overlay_memory.proofs.Rebasing.{has_rebased, is_away, rebased_translated, sees_frame, told_few, told_many}
 use Rattle.overlay_memory.proofs.Truths.{flushed_lists, with_cache}
 use Rattle.overlay_memory.proofs.Fronting.{none_known}
 use Rattle.overlay_memory.proofs.memory.OverlayMemory.rebase_found.Goals as goal
@@ -22,10 +23,10 @@ theirs : (c : After-lines_apart-lines) → is_some (page_in (seen.state_of c.sel
 theirs c = there_found c.self.inside.pages c.args.theirs.now (subst (λ m. IsFoundPage m.pages.table c.args.theirs.now) (sym c.self.view_is) c.requires.theirs)
 
 alone : (c : After-lines_apart-lines) → is_alone (books (seen.state_of c.self.inside.pages)) c.args.page.now.space c.args.page.now.page ≡ true
-alone c = ap (λ m. is_alone (books (state_of m)) c.args.page.now.space c.args.page.now.page) c.self.view_is ∙ c.requires.apart.alone
+alone c = ap (λ m. is_alone (books (state_of m)) c.args.page.now.space c.args.page.now.page) c.self.view_is ∙ c.requires.asked.apart.alone
 
 away : (c : After-lines_apart-lines) → is_origin_here (books (seen.state_of c.self.inside.pages)) c.args.page.now.space c.args.theirs.now.space c.args.theirs.now.page ≡ false
-away c = ap (λ m. is_origin_here (books (state_of m)) c.args.page.now.space c.args.theirs.now.space c.args.theirs.now.page) c.self.view_is ∙ c.requires.apart.away
+away c = ap (λ m. is_origin_here (books (state_of m)) c.args.page.now.space c.args.theirs.now.space c.args.theirs.now.page) c.self.view_is ∙ c.requires.asked.apart.away
 
 pub lines_apart-lines-requires-clause-found : goal.lines_apart-lines-requires-clause-found
 lines_apart-lines-requires-clause-found c = subst (λ m. IsFoundPage m.pages.table c.args.page.now) (sym c.self.view_is) c.requires.found
@@ -69,7 +70,7 @@ invariant_of-self c =
       with_cache (seen.state_of c.rebase_found.new.self) _ c.flush.new.self c.flush.ensures.flushed
           (rebased_translated (seen.state_of c.self.inside.pages) c.args.page.now.space c.args.page.now.page c.args.theirs.now.space c.args.theirs.now.page (there at) (theirs at) (alone at) (away at)
           (seen.state_of c.rebase_found.new.self) c.lines_apart-lines.result c.rebase_found.ensures (few (goal.at.invariant_of-self c).After-flush) c.self.inside.cache
-          (ap (λ m. (space_in (state_of m) c.args.page.now.space).awaiting) c.self.view_is ∙ c.requires.none_awaits) c.self.invariant.0),
+          (ap (λ m. (space_in (state_of m) c.args.page.now.space).awaiting) c.self.view_is ∙ c.requires.asked.none_awaits) c.self.invariant.0),
       none_known _ _ _ c.clear.ensures,
     )
 
@@ -78,8 +79,8 @@ returns c =
     let at = (goal.at.returns c).After-lines_apart-lines in
     let flush = (goal.at.returns c).After-flush in (
       record {
-        alone = c.requires.apart.alone;
-        away = c.requires.apart.away;
+        alone = c.requires.asked.apart.alone;
+        away = c.requires.asked.apart.away;
         few = subst (λ m. length (apart_in (state_of m) c.args.page.now.space c.args.page.now.page c.args.theirs.now.space c.args.theirs.now.page) ≤ 31) c.self.view_is
             (subst (λ l. length l ≤ 31) (all flush) (few flush));
       },
