@@ -1,7 +1,7 @@
 use Rattle.overlay_pages.specs.State.{memory_of}
 use Rattle.overlay_pages.specs.View.{state_of}
 use Rattle.overlay_memory.proofs.Compared.{IsComparing}
-use Rattle.overlay_memory.proofs.comparing.lines_of_found.Given as goal
+use Rattle.overlay_memory.proofs.comparing.lines_apart.Given as goal
 use Rattle.space_maps.specs.Spaces.{page_in}
 
 abbrev pub invariant-comparing : goal.invariant-comparing
