@@ -155,10 +155,13 @@ def copies(study):
                 commands += [command(f"restore {process} {kept}{process}"), command(f"forget {kept}{process}")]
             elif first == "drop" and process in before:
                 commands += [line, command(f"forget {kept}{process}")]
+            elif first == "dedup":
+                # how many pages it shares may differ, since pages that share a frame in part don't here
+                commands += [line]
             elif first not in PRINTS + ("promote",):
                 places.append((k, len(commands)))
                 commands += [line]
-            if first in TURNS or first == "poke":
+            if first in TURNS + ("poke", "dedup"):
                 commands += [command(f"promote {p} all") for p in processes(measured)[0]]
         before = processes(measured)[1]
         added.append(len(commands))

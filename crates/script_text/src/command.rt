@@ -37,7 +37,8 @@ pub enum Command {
     Promote(u16, u64),
     /// Promotes each page of a process.
     PromoteAll(u16),
-    /// Puts the page of an address of a process on the frame of the page of an address of another, or of its own.
+    /// Puts a process's page of an address on the frame of the page of another address, of another process or of
+    /// the same.
     Dedup(u16, u64, u16, u64),
     /// Puts each page of a process that another has too on that one's frame, where that may be done.
     DedupAll(u16, u16),

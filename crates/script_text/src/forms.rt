@@ -222,7 +222,8 @@ fn promote(words: &[u8]) -> Option<Command>
 /// `ADDR Q ADDR`, behind `dedup P`
 #[tactic(auto, using(crate::proofs::Rows::not_three))]
 fn dedup_of(p: u16, words: &[u8]) -> Option<Command>
-    ensures { result ≡ three_words address_word process_word address_word (command.Dedup p) (words_of words.now) }
+    ensures { result ≡ three_words address_word process_word address_word (command.Dedup p)
+        (words_of words.now) }
 {
     let (address, q, other) = three_words(words)?;
     let address = address_word(address)?;
@@ -256,9 +257,11 @@ fn dedup_all(words: &[u8]) -> Option<Command>
 
 /// `dedup P ADDR Q ADDR` or `dedup P all Q`
 fn dedup(words: &[u8]) -> Option<Command>
-    ensures { result
-        ≡ option_or (four_words process_word address_word process_word address_word command.Dedup (words_of words.now))
-        (three_words process_word all_word process_word (λ p all q. command.DedupAll p q) (words_of words.now)) }
+    ensures { result ≡ option_or
+        (four_words process_word address_word process_word address_word command.Dedup
+        (words_of words.now))
+        (three_words process_word all_word process_word (λ p all q. command.DedupAll p q)
+        (words_of words.now)) }
 {
     match dedup_page(words) {
         Some(command) => Some(command),
