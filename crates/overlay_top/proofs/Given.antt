@@ -1,4 +1,4 @@
-use Rattle.std.proofs.Common.{◌≡◌, ℕ, List, ◌++◌, ap, subst, ◌∙◌, refl, Result, Ok, Err}
+use Rattle.std.proofs.Common.{◌≡◌, Bool, ℕ, List, ◌++◌, ap, sym, subst, ◌∙◌, refl, Result, Ok, Err}
 use Rattle.ovl_io.specs.declared.sink.Sink.{Ghosts as SinkOf}
 use Rattle.report_text.specs.declared.answer.Answer.{Answer}
 use Rattle.report_text.specs.declared.answer.Answer.TheVariants.{Done, Loaded, Forked, Saved, Shared, Refused, Full, Memory}
