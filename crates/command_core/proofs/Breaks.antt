@@ -14,27 +14,12 @@ use Rattle.machine_core.specs.Turns.{Guest, with_guest}
 use Rattle.machine_core.specs.Executions.{is_at_stop, stops_in}
 use Rattle.report_text.specs.declared.answer.Stop.{Stop}
 use Rattle.report_text.specs.declared.answer.Stop.TheVariants.{Break}
-use Rattle.command_core.specs.Sessions.{AreBreaksOf, NoneGoes}
-use Rattle.command_core.proofs.Places.{not_free}
-use Rattle.command_core.specs.Turns.{Progress, break_at, break_of, last_break, run_after}
+use Rattle.command_core.specs.Sessions.{AreBreaksOf}
+use Rattle.process_runs.specs.Places.{NoneGoes}
+use Rattle.process_runs.specs.PlaceLaws.{not_free}
+use Rattle.process_runs.specs.Turns.{Progress, break_at, break_of, last_break, run_after}
 
--- Breakpoints: where turns stop, and what is left of them.
-
--- the addresses that are handed over are those of the process
-pub stops_are : (breaks : Breaks) (p : ℕ) (found : Option (Bor Addresses)) → option_copied found ≡ get breaks p → stops_in found ≡ addresses_of breaks p
-stops_are breaks p found is = ap (λ (o : Option Addresses). unwrap_or o empty) is
-
-no_stop : (running at : Bool) (p pc : ℕ) → at ≡ false → ◌≡◌ {A = Option Stop} (cond (running && at) (Some (Break p pc)) None) None
-no_stop true true p pc is = cc
-no_stop true false p pc is = refl
-no_stop false at p pc is = refl
-
--- a turn that leaves the pc at no breakpoint of its process
-pub unbroken_after : (breaks : Breaks) (ps : Wholes) (p : ℕ) (guest : Guest) (run : Progress) → is_at_stop (addresses_of breaks p) guest ≡ false
-    → last_break breaks (with_guest ps p guest) (run_after p run) ≡ None
-unbroken_after breaks ps p guest run goes =
-    ap (λ (o : Option Process). option_and_then (break_at breaks p) o) (get_same ps.processes p p guest.process refl)
-    ∙ no_stop (runs guest.process.state) (is_at_stop (addresses_of breaks p) guest) p guest.process.registers.pc goes
+-- Breakpoints: what is left of them.
 
 -- Where a number has no breakpoints, it has none taken away.
 pub none_removed : (breaks : Breaks) (p : ℕ) → get breaks p ≡ None → remove breaks p ≡ breaks
@@ -75,16 +60,3 @@ breaks_without machine breaks p address there none = by_found (get breaks p)
     by_found : (o : Option Addresses) → AreBreaksOf machine (option_map_or (λ addresses. insert breaks p (without_address addresses address)) o breaks)
     by_found None = none
     by_found (Some addresses) = breaks_put machine breaks p (without_address addresses address) there none
-
--- where a process never had a breakpoint, none is reached
-none_by : (breaks : Breaks) (p : ℕ) (process : Process) → None ≡ get breaks p → None ≡ break_at breaks p process
-none_by breaks p process none =
-    sym (no_stop (runs process.state) (contains (addresses_of breaks p) process.registers.pc) p process.registers.pc
-    (ap (λ (o : Option Addresses). contains (unwrap_or o empty) process.registers.pc) (sym none) ∙ contains-empty nat_cmp process.registers.pc))
-
-pub no_break : (breaks : Breaks) (ps : Wholes) (p : ℕ) → None ≡ get breaks p → None ≡ break_of breaks ps p
-no_break breaks ps p none = by_found (get ps.processes p)
-  where
-    by_found : (o : Option Process) → ◌≡◌ {A = Option Stop} None (option_and_then (break_at breaks p) o)
-    by_found None = refl
-    by_found (Some process) = none_by breaks p process none

@@ -27,7 +27,8 @@ use Rattle.command_core.specs.LikeLaws.{states_itself}
 use Rattle.command_core.specs.Copies.{Adopts, CopiesProcess, CopyFails, IsCopied}
 use Rattle.command_core.specs.Checkpoints.{Enters, IsSaved, SavesSpace}
 use Rattle.command_core.proofs.Rows.{fits, is_short, row_full, row_wants}
-use Rattle.command_core.proofs.Places.{keeps_before, keeps_same, none_is, processes_kept, processes_put}
+use Rattle.command_core.proofs.Places.{keeps_before, keeps_same, processes_kept, processes_put}
+use Rattle.process_runs.specs.PlaceLaws.{none_is}
 
 -- A machine with a copy of a space, for a process or for a checkpoint.
 

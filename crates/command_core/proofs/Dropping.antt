@@ -11,7 +11,8 @@ use Rattle.machine_core.specs.Laws.{wholes_dropped}
 use Rattle.report_text.specs.declared.answer.Answer.TheVariants.{Done}
 use Rattle.command_core.specs.declared.checkpoints.Kept.{Kept}
 use Rattle.command_core.specs.State.{Checkpoint, State, registry_of}
-use Rattle.command_core.specs.Sessions.{HasNoProcess, IsSession, KeepsFree, session_state}
+use Rattle.command_core.specs.Sessions.{HasNoProcess, IsSession, session_state}
+use Rattle.process_runs.specs.Places.{KeepsFree}
 use Rattle.command_core.specs.Kept.{checkpoint_in, checkpoints_in, kept_but, kept_named, spaces_kept}
 use Rattle.command_core.specs.Rows.{accepts, ledger_by}
 use Rattle.command_core.specs.Giving.{GivesChange}

@@ -4,10 +4,7 @@ pub mod Keeping
 pub mod Places
 pub mod Numbers
 pub mod Rows
-pub mod Rans
 pub mod Breaks
-mod Stretches
-pub mod Stretching
 pub mod Standing
 pub mod Loadings
 pub mod Assemblings
@@ -16,6 +13,7 @@ pub mod Copies
 pub mod Forkings
 pub mod Savings
 pub mod Speculating
+pub mod Deduplicating
 pub mod Pages
 pub mod Registers
 pub mod Debugging

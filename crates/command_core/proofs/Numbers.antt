@@ -16,7 +16,7 @@ use Rattle.command_core.specs.declared.checkpoints.Kept.{Kept}
 use Rattle.command_core.specs.State.{Checkpoint, Registry, is_used, next_number, registry_of}
 use Rattle.command_core.specs.Sessions.{HasNoProcess, IsSession}
 use Rattle.command_core.specs.Kept.{checkpoints_in, shown_state, spaces_kept}
-use Rattle.command_core.proofs.Places.{none_is}
+use Rattle.process_runs.specs.PlaceLaws.{none_is}
 
 -- The next number is the least that is free.
 

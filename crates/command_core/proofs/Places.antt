@@ -25,7 +25,8 @@ use Rattle.machine_core.specs.Laws.{processes_at, runs_shown, whole_by}
 use Rattle.machine_core.specs.Load.{IsAsBefore, IsLoaded, loaded_process}
 use Rattle.round_robin.specs.MemberLaws.{next_has}
 use Rattle.round_robin.specs.Turns.{Turns, next_number}
-use Rattle.command_core.specs.Sessions.{HasNoProcess, IsSession, KeepsFree, KeepsSession, NoneGoes, OwnSpaces, bases_of}
+use Rattle.command_core.specs.Sessions.{HasNoProcess, IsSession, KeepsSession, bases_of}
+use Rattle.process_runs.specs.Places.{KeepsFree, NoneGoes, OwnSpaces}
 use Rattle.free_numbers.specs.Numbers.{IsPut, is_in, is_number}
 use Rattle.overlay_bits.specs.Below.{and_false, and_true}
 use Rattle.translation_cache.specs.Absent.{HasNone, none_at_first, none_flushed, none_of_own}
@@ -34,47 +35,6 @@ use Rattle.command_core.specs.Rows.{flushed_by}
 use Rattle.command_core.proofs.Keeping.{any_last, any_left, each, each_more, none_twice, once_more}
 
 -- Which spaces and processes are there.
-
-pub none_is : {X : Type 0} (o : Option X) → is_some o ≡ false → o ≡ None
-none_is None h = refl
-none_is (Some x) h = cc
-
-pub same_start : (machine : Machine) → KeepsPlaces machine machine
-same_start machine = record { spaces = λ q. refl; awaiting = λ q. refl; processes = λ q. refl; marks = λ q. refl; saves = λ q. refl }
-
-pub same_then : (a b c : Machine) → KeepsPlaces a b → KeepsPlaces b c → KeepsPlaces a c
-same_then a b c first second = record {
-  spaces = λ q. second.spaces q ∙ first.spaces q;
-  awaiting = λ q. second.awaiting q ∙ first.awaiting q;
-  processes = λ q. second.processes q ∙ first.processes q;
-  marks = λ q. second.marks q ∙ first.marks q;
-  saves = λ q. second.saves q ∙ first.saves q;
-}
-
--- a process that is there has a number of its own
-pub not_free : (machine : Machine) (p q : ℕ) → is_some (get machine.processes p) ≡ true → get machine.processes q ≡ None → q ≡ p → ⊥
-not_free machine p q there none same = let lacks = ap is_some (sym (ap (get machine.processes) same) ∙ none) in let both : false ≡ true = sym lacks ∙ there in cc
-
--- free spaces, the same way
-pub free_start : (machine : Machine) → KeepsFree machine machine
-free_start machine = record { spaces = λ q none. refl; unseen = λ q none unlisted. unlisted }
-
-pub free_then : (a b c : Machine) → KeepsPlaces a b → KeepsFree a b → KeepsFree b c → KeepsFree a c
-free_then a b c places first second = record {
-  spaces = λ q none. second.spaces q (still q none) ∙ first.spaces q none;
-  unseen = λ q none unlisted. second.unseen q (still q none) (first.unseen q none unlisted);
-}
-  where
-    still : (q : ℕ) → get a.processes q ≡ None → get b.processes q ≡ None
-    still q none = none_is (get b.processes q) (places.processes q ∙ ap is_some none)
-
--- where all but one process is as it was, free spaces are
-pub free_stays : (p : ℕ) (old new : Machine) → StaysBut p old new → is_some (get old.processes p) ≡ true
-    → ((q : ℕ) → (q ≡ p → ⊥) → HasNone q (lists_of old) → HasNone q (lists_of new)) → KeepsFree old new
-free_stays p old new others there unlisted = record {
-  spaces = λ q none. others.spaces q (not_free old p q there none);
-  unseen = λ q none. unlisted q (not_free old p q there none);
-}
 
 -- nothing is translated by entries that go
 pub none_flushed_by : (flushes : Option ℕ) (q : ℕ) (t : BareTranslations) → HasNone q t → HasNone q (flushed_by flushes t)
@@ -103,41 +63,9 @@ mark_at machine p whole there = by_found (get machine.processes p) (sym (process
         sym (marked_is (spaces_of machine) p process (is_marked machine p) refl)
         ∙ ap (λ (o : Option Process). option_map_or (λ (q : Process). is_speculating q) o false) shown
 
--- the one whose turn is next runs
-pub next_runs : (processes : Wholes) (next : Option ℕ) (turns : Turns) (running : List ℕ) → All (λ p. is_running processes p ≡ true) running
-    → next ≡ next_number turns running → IfSome next (λ p. is_running processes p ≡ true)
-next_runs processes None turns running all is = tt
-next_runs processes (Some p) turns running all is = next_has (λ q. is_running processes q ≡ true) turns running p all (sym is)
-
--- a process that runs is there, and so is its space
-
-pub process_there : (machine : Machine) (p : ℕ) → is_running (wholes machine) p ≡ true → is_some (get machine.processes p) ≡ true
-process_there machine p running = by_process (get machine.processes p) (sym (runs_shown machine p) ∙ running)
-  where
-    by_process : (o : Option declared.Process) → option_map_or (λ (process : declared.Process). runs process.state) o false ≡ true → is_some o ≡ true
-    by_process None h = cc
-    by_process (Some process) h = refl
-
--- turns of a process that runs leave the others
-pub free_turns : (p : ℕ) (old new : Machine) (left : Wholes) → StaysBut p old new → is_running (wholes old) p ≡ true → AreLike (wholes new) left
-    → ((q : ℕ) → (q ≡ p → ⊥) → HasNone q (lists_of old) → HasNone q left.translations) → KeepsFree old new
-free_turns p old new left others running like unlisted =
-    free_stays p old new others (process_there old p running) (λ q other none. subst (HasNone q) (sym like.translations) (unlisted q other none))
-
--- no process goes where the same ones are there
-pub stay_kept : (old new : Machine) → KeepsPlaces old new → NoneGoes old new
-stay_kept old new same q none = none_is (get old.processes q) (sym (same.processes q) ∙ ap is_some none)
-
-pub space_there : (machine : Machine) (p : ℕ) → OwnSpaces machine → is_running (wholes machine) p ≡ true → has_space machine p ≡ true
-space_there machine p own running = own p (process_there machine p running)
-
--- and stays so where the same ones are there
-pub own_kept : (old new : Machine) → OwnSpaces old → KeepsPlaces old new → OwnSpaces new
-own_kept old new own same p some = same.spaces p ∙ own p (sym (same.processes p) ∙ some)
-
 -- what a session keeps stays so
 
-pub session_kept : (old new : Machine) (spaces : List ℕ) (numbers : List (List ℕ)) → IsSession old spaces numbers → KeepsPlaces old new → KeepsFree old new
+pub session_kept : (old new : Machine) (spaces : List ℕ) (numbers : List (List ℕ)) → IsSession old spaces numbers → KeepsPairs old new → KeepsFree old new
     → IsSession new spaces numbers
 session_kept old new spaces numbers is same free = record {
   are_free = λ p. is.are_free p ∙ ap (λ b. is_number p && not b) (sym (same.spaces p));
@@ -145,7 +73,7 @@ session_kept old new spaces numbers is same free = record {
   own_space = λ p some. same.spaces p ∙ is.own_space p (sym (same.processes p) ∙ some);
   owned = λ p some none. is.owned p (sym (same.spaces p) ∙ some) (before p none);
   none_awaits = λ p. same.awaiting p ∙ is.none_awaits p;
-  kept = λ p. same.marks p ∙ is.kept p ∙ sym (same.saves p);
+  kept = λ p. same.kept p (is.kept p);
   free = each (HasNoProcess old) (HasNoProcess new) spaces
       (λ q h. (same.spaces q ∙ h.0, none_is (get new.processes q) (same.processes q ∙ ap is_some h.1))) is.free;
   once = is.once;

@@ -32,7 +32,7 @@ use Rattle.command_core.proofs.Places.{AreSame, keeps_same}
 
 -- Whether there are units enough for an event.
 
-not_over : (limit needed : ℕ) → needed ≤ limit → nat_lt limit needed ≡ false
+pub not_over : (limit needed : ℕ) → needed ≤ limit → nat_lt limit needed ≡ false
 not_over limit needed h = by_test (nat_lt limit needed) refl
   where
     by_test : (b : Bool) → nat_lt limit needed ≡ b → b ≡ false

@@ -30,7 +30,8 @@ use Rattle.command_core.specs.LikeLaws.{states_itself, states_same}
 use Rattle.command_core.proofs.Copies.{copy_keeps, gives_unmade}
 use Rattle.command_core.proofs.Forkings.{mark_in}
 use Rattle.command_core.proofs.Keeping.{all_shown, each, found_has, more_shown, more_spaces, named_shown}
-use Rattle.command_core.proofs.Places.{free_same, free_stays, mark_at, marked_is, next_same, not_free, session_saved}
+use Rattle.command_core.proofs.Places.{free_same, mark_at, marked_is, next_same, session_saved}
+use Rattle.process_runs.specs.PlaceLaws.{free_stays, not_free}
 use Rattle.command_core.proofs.Rows.{gives_found, gives_kept, row_accepted, row_refused}
 
 -- What a checkpoint and a restore come to.

@@ -10,7 +10,7 @@ use Rattle.ledger.specs.AlikeLaws.{alike_itself}
 use Rattle.ledger.specs.Events.{Event, ledger_after}
 use Rattle.ledger.specs.Events as event
 use Rattle.ovl_io.specs.Memory.{Memory, Page}
-use Rattle.overlay_pages.specs.State.{PageState, SpaceState, base_of, books, memory_of, seen_page}
+use Rattle.overlay_pages.specs.State.{PageState, SpaceState, State, base_of, books, memory_of, seen_page}
 use Rattle.overlay_memory.specs.View.{TranslatedView, state_of, translations_of}
 use Rattle.translation_cache.specs.Translations.{flushed}
 use Rattle.overlay_memory.specs.StateMemory.{memory_at}
@@ -39,7 +39,8 @@ use Rattle.command_core.specs.Giving.{MachineGives}
 use Rattle.command_core.specs.Refusals.{by_speculating}
 use Rattle.command_core.specs.ProcessChanges.{ChangesProcess, after_commit, after_discard, after_speculate, leaves, process_row, promotion_answer, speculation_answer}
 use Rattle.command_core.proofs.Keeping.{each}
-use Rattle.command_core.proofs.Places.{marked_is, none_flushed_by, none_is, not_free, processes_put}
+use Rattle.command_core.proofs.Places.{marked_is, none_flushed_by, processes_put}
+use Rattle.process_runs.specs.PlaceLaws.{none_is, not_free}
 use Rattle.free_numbers.specs.Numbers.{is_number}
 use Rattle.translation_cache.specs.Absent.{HasNone}
 use Rattle.command_core.proofs.Rows.{fits, is_short, machine_done, machine_full, machine_refused}
@@ -55,6 +56,15 @@ wholes_left e flushes old processes = record {
   extension = old.extension;
   translations = flushed_by flushes (lists_of old);
 }
+
+-- the pages of a space lie otherwise, and are seen as they were; nothing else changed
+pub record IsSeenSame (p : ℕ) (old new : State) : Type 0 where
+  pub memory : memory_of new p ≡ memory_of old p
+  pub marked : (space_in new p).speculating ≡ (space_in old p).speculating
+  pub awaiting : (space_in new p).awaiting ≡ (space_in old p).awaiting
+  pub others : (q : ℕ) → (q ≡ p → ⊥) → space_in new q ≡ space_in old q
+  pub spaces : (q : ℕ) → holds_space new q ≡ holds_space old q
+  pub frames : new.frames ≡ old.frames
 
 -- what is seen of a process: whether registers and state are kept
 abbrev saved_of : Option declared.Process → Bool
@@ -228,22 +238,27 @@ module _ (p : ℕ) (process : declared.Process) (old : Machine) (memory : Transl
   pub nothing_saved : process.saved ≡ None → is_marked old p ≡ has_saved old p → ChangesProcess p Discard process old (Refused NotSpeculating) old
   nothing_saved none kept = not_kept (kept ∙ saved_here ∙ ap is_some none) old refl
 
-  -- Pages are promoted.
-  module _ (which : ℕ → Bool) (s : AreInFrames which (is_marked old p) (spaces_of old) (state_of memory) p) (unmarked : is_marked old p ≡ false) (e : Event)
+  -- Its pages lie otherwise, and are seen as they were.
+  module _ (s : IsSeenSame p (spaces_of old) (state_of memory)) (unmarked : is_marked old p ≡ false) (e : Event)
       (lists : translations_of memory ≡ flushed p (lists_of old)) (ledger : AreAlike (books (state_of memory)) (ledger_after e (books (spaces_of old)))) where
     process_is : whole_in (state_of memory) p process ≡ before
     process_is =
         let kept = kept_by process.saved false (base_of (state_of memory) p) (s.marked ∙ unmarked) refl ∙ sym (kept_before false unmarked) in
         λ i. record { registers = process.regs; state = process.state; memory = s.memory i; kept = kept i }
 
-    promoted : AreLike (wholes mid) (wholes_left e (Some p) old (processes_of old))
-    promoted =
+    pub same_like : AreLike (wholes mid) (wholes_left e (Some p) old (processes_of old))
+    same_like =
         subst (λ (m : Machine). AreLike (wholes m) (wholes_left e (Some p) old (processes_of old))) put_again
         (subst (λ (ps : Processes). AreLike (wholes (with_process_at mid p process)) (wholes_left e (Some p) old ps)) left_again
         (wholes_are e process before process_is s.others (Some p) ledger s.frames lists))
 
-    promoted_stays : KeepsSession old mid
-    promoted_stays = subst (KeepsSession old) put_again (stays e process before process_is s.others (Some p) lists s.spaces s.awaiting (λ h. s.marked ∙ h ∙ saved_here))
+    pub same_stays : KeepsSession old mid
+    same_stays = subst (KeepsSession old) put_again (stays e process before process_is s.others (Some p) lists s.spaces s.awaiting (λ h. s.marked ∙ h ∙ saved_here))
+
+  -- Pages are promoted.
+  settled_same : (which : ℕ → Bool) → AreInFrames which (is_marked old p) (spaces_of old) (state_of memory) p → IsSeenSame p (spaces_of old) (state_of memory)
+  settled_same which s =
+      record { memory = s.memory; marked = s.marked; awaiting = s.awaiting; others = s.others; spaces = s.spaces; frames = s.frames }
 
   all_refusal : (mark : Bool) → is_marked old p ≡ mark → (r : Registry) → first_refusal (process_row p PromoteAll before r).refusals ≡ first_refusal (by_speculating mark ∷ [])
   all_refusal mark is r = ap (λ b. first_refusal (by_speculating b ∷ [])) (speculates mark is)
@@ -251,7 +266,8 @@ module _ (p : ℕ) (process : declared.Process) (old : Machine) (memory : Transl
   pub all_promoted : PromotesAll old.memory memory p (Ok tt) → translations_of memory ≡ flushed p (lists_of old) → ChangesProcess p PromoteAll process old Done mid
   all_promoted (unmarked, within, has) lists =
       machine_done (process_row p PromoteAll before) old mid (all_refusal false unmarked) (λ kept breaks. fits (event.Settle p) old within) (λ r. refl)
-      (λ kept breaks. promoted _ has.settled unmarked (event.Settle p) lists has.ledger) (λ r. refl) (λ r. refl) (promoted_stays _ has.settled unmarked (event.Settle p) lists has.ledger)
+      (λ kept breaks. same_like (settled_same _ has.settled) unmarked (event.Settle p) lists has.ledger) (λ r. refl) (λ r. refl)
+      (same_stays (settled_same _ has.settled) unmarked (event.Settle p) lists has.ledger)
 
   pub none_promoted : (e : PromoteError) (address : ℕ) → PromotesAll old.memory memory p (Err e) → ChangesProcess p PromoteAll process old (promotion_answer address e) mid
   none_promoted (promote.Unmapped at) address h = absurd h
@@ -287,7 +303,8 @@ module _ (p : ℕ) (process : declared.Process) (old : Machine) (memory : Transl
     page_promoted (unmarked, has) lists =
         let e = event.SettlePage p (address / PAGE_BYTES) in
         machine_done one old mid (here_refusal unmarked has.there) (λ kept breaks. fits e old has.fits) (λ r. refl)
-        (λ kept breaks. promoted _ has.settled unmarked e lists has.ledger) (λ r. refl) (λ r. refl) (promoted_stays _ has.settled unmarked e lists has.ledger)
+        (λ kept breaks. same_like (settled_same _ has.settled) unmarked e lists has.ledger) (λ r. refl) (λ r. refl)
+        (same_stays (settled_same _ has.settled) unmarked e lists has.ledger)
 
     pub not_promoted : (e : PromoteError) → Promotes old.memory memory p (address / PAGE_BYTES) (Err e)
         → ChangesProcess p (Promote address) process old (promotion_answer address e) mid

@@ -1,4 +1,4 @@
-use Rattle.std.proofs.Common.{◌≡◌, ℕ, cond, List, sym, ap, ◌∙◌, refl, subst, Option, Some, None}
+use Rattle.std.proofs.Common.{◌≡◌, ℕ, Bool, cond, List, sym, ap, ◌∙◌, refl, subst, Option, Some, None}
 use Rattle.std.specs.Prelude.{Result, Ok, Err}
 use Rattle.std.specs.Option.{option_or}
 use Rattle.std.specs.FinMap.{get}
@@ -6,21 +6,25 @@ use Rattle.breakpoints.specs.Breakpoints.{Breaks}
 use Rattle.ovl_io.specs.declared.turn.Turn.{Turn}
 use Rattle.machine_core.specs.Process.{Process, runs}
 use Rattle.machine_core.specs.Machine.{AreLike, Machine, Processes, Wholes, spaces_of}
-use Rattle.machine_core.specs.Turns.{after_turn}
-use Rattle.machine_core.specs.Laws.{like_after_turn, like_back, like_chain, like_itself, like_turn}
+use Rattle.machine_core.specs.Laws.{like_back, like_chain, like_itself}
+use Rattle.self_speculation.specs.Taken.{after_taken}
+use Rattle.self_speculation.specs.TakenLaws.{like_after_taken, like_taken}
 use Rattle.report_text.specs.declared.answer.Code.{Code}
 use Rattle.report_text.specs.declared.answer.Code.TheVariants.{Ended}
 use Rattle.command_core.specs.declared.modes.Modes.{Modes}
 use Rattle.command_core.specs.State.{State, with_wholes}
-use Rattle.command_core.specs.Sessions.{InSession, IsSession, KeepsFree, KeepsRest}
+use Rattle.command_core.specs.Sessions.{InSession, IsSession, KeepsRest}
+use Rattle.process_runs.specs.Places.{KeepsFree}
 use Rattle.command_core.specs.declared.checkpoints.Kept.{Kept}
 use Rattle.command_core.specs.Kept.{shown_session, spaces_kept}
 use Rattle.command_core.proofs.Keeping.{all_shown}
 use Rattle.command_core.proofs.Places.{free_same}
 use Rattle.command_core.specs.Looks.{BeginsStep, begun}
-use Rattle.command_core.specs.LikeLaws.{like_ending, like_found, like_left, like_next, like_text}
-use Rattle.command_core.specs.Standing.{SessionAnswersAs, SessionStandsFor, TurnsAs, begun_step, ends_run, speaks, takes_turn}
-use Rattle.command_core.specs.Turns.{EndsRun, InRun, Progress, Speaks, begun_alone, TakesTurn, found_before, left_of, ran_text, run_altered, run_counted, run_found}
+use Rattle.process_runs.specs.LikeLaws.{like_ending, like_found, like_left, like_next, like_text}
+use Rattle.command_core.specs.Standing.{PlaysAs, SessionAnswersAs, SessionStandsFor, TurnsAs, begun_step, ends_run, speaks, takes_turn}
+use Rattle.process_runs.specs.Played.{run_over}
+use Rattle.process_runs.specs.PlayedLaws.{like_run}
+use Rattle.process_runs.specs.Turns.{EndsRun, InRun, Progress, Speaks, begun_alone, TakesTurn, found_before, left_of, ran_text, run_altered, run_counted, run_found}
 
 -- What holds of a session's own processes holds of those of each state that it stands for.
 
@@ -28,18 +32,18 @@ pub for_each : (fact : Processes → Type 0) (session : InSession) → fact sess
 for_each fact session holds state stands = subst fact stands.wholes.processes holds
 
 -- turns that are begun
-like_begun : (breaks : Breaks) (a b : Wholes) (p turns : ℕ) → AreLike a b → begun breaks a p turns (get a.processes p) ≡ begun breaks b p turns (get b.processes p)
-like_begun breaks a b p turns like = by_found (get a.processes p) ∙ ap (λ (ps : Processes). begun breaks b p turns (get ps p)) like.processes
+like_begun : (breaks : Breaks) (a b : Wholes) (calls : Bool) (p turns : ℕ) → AreLike a b → begun breaks a calls p turns (get a.processes p) ≡ begun breaks b calls p turns (get b.processes p)
+like_begun breaks a b calls p turns like = by_found (get a.processes p) ∙ ap (λ (ps : Processes). begun breaks b calls p turns (get ps p)) like.processes
   where
-    by_found : (o : Option Process) → begun breaks a p turns o ≡ begun breaks b p turns o
+    by_found : (o : Option Process) → begun breaks a calls p turns o ≡ begun breaks b calls p turns o
     by_found None = refl
-    by_found (Some process) = ap (λ r. cond (runs process.state) (Ok r) (Err Ended)) (like_found a b like breaks (begun_alone p turns))
+    by_found (Some process) = ap (λ r. cond (runs process.state) (Ok r) (Err Ended)) (like_found a b like breaks (begun_alone p calls turns))
 
-pub step_begun : (session : InSession) (p turns : ℕ) (result : Result InRun Code) → BeginsStep session.state.breakpoints session.state.wholes p turns result
-    → SessionAnswersAs (begun_step p turns) session result
-step_begun session p turns result is state stands =
-    is ∙ like_begun session.state.breakpoints session.state.wholes state.wholes p turns stands.wholes
-    ∙ ap (λ (bs : Breaks). begun bs state.wholes p turns (get state.wholes.processes p)) stands.breakpoints
+pub step_begun : (session : InSession) (calls : Bool) (p turns : ℕ) (result : Result InRun Code) → BeginsStep session.state.breakpoints session.state.wholes calls p turns result
+    → SessionAnswersAs (begun_step calls p turns) session result
+step_begun session calls p turns result is state stands =
+    is ∙ like_begun session.state.breakpoints session.state.wholes state.wholes calls p turns stands.wholes
+    ∙ ap (λ (bs : Breaks). begun bs state.wholes calls p turns (get state.wholes.processes p)) stands.breakpoints
 
 pub run_begun : (session : InSession) (run : Progress) (result : InRun) → result ≡ run_found session.state.breakpoints session.state.wholes run
     → (state : State) → SessionStandsFor session state → result ≡ run_found state.breakpoints state.wholes run
@@ -61,15 +65,15 @@ module _ (breaks : Breaks) where
   takes_like a b new running after None like (same, (stop, found, is)) =
       (b, subst (λ (w : Wholes). AreLike w b) (sym same) like, (refl, (stop, found_same a b running like ∙ found, is)))
   takes_like a b new running after (Some (p, t)) like (none, next, came, altered, is) =
-      let left = like_chain new (after_turn a p) (after_turn b p) altered (like_after_turn p a b like) in (
-        after_turn b p,
+      let left = like_chain new (after_taken running.run.calls a p) (after_taken running.run.calls b p) altered (like_after_taken p a b like running.run.calls) in (
+        after_taken running.run.calls b p,
         left,
         (
           found_same a b running like ∙ none,
           sym (like_next a b like running.run.order) ∙ next,
-          came ∙ like_turn p a b like,
-          like_itself (after_turn b p),
-          is ∙ like_altered t p new (after_turn b p) running.run left,
+          came ∙ like_taken p a b like running.run.calls,
+          like_itself (after_taken running.run.calls b p),
+          is ∙ like_altered t p new (after_taken running.run.calls b p) running.run left,
         ),
       )
 
@@ -147,3 +151,8 @@ ends_as old new running after (stop, found, said) rest state stands =
         ),
       ),
     )
+
+pub plays_as : (old new : InSession) (turns : List ℕ) → AreLike new.state.wholes (run_over turns old.state.wholes) → KeepsRest old new → PlaysAs turns old new
+plays_as old new turns played rest state stands =
+    after_stands old new state (run_over turns state.wholes) rest stands
+    (like_chain new.state.wholes (run_over turns old.state.wholes) (run_over turns state.wholes) played (like_run turns old.state.wholes state.wholes stands.wholes))

@@ -6,7 +6,7 @@ use Rattle.machine_core.specs.Machine.{Machine}
 use Rattle.machine_core.specs.Load.{IsAsBefore, Loads}
 use Rattle.machine_core.specs.LoadLaws.{same_wholes}
 use Rattle.report_text.specs.declared.answer.Answer.{Answer}
-use Rattle.report_text.specs.declared.answer.Answer.TheVariants.{Done, Loaded, Forked, Saved, Refused, Full, Memory}
+use Rattle.report_text.specs.declared.answer.Answer.TheVariants.{Done, Loaded, Forked, Saved, Shared, Refused, Full, Memory}
 use Rattle.command_core.specs.declared.modes.Modes.{Modes}
 use Rattle.command_core.specs.declared.checkpoints.Kept.{Kept}
 use Rattle.command_core.specs.Sessions.{InSession, bases_of}
@@ -43,6 +43,7 @@ module _ (old new : Machine) (xs : List Kept) (breaks : Breaks) (modes : Modes) 
   machine_keeps (Loaded p pages entry) kept = tt
   machine_keeps (Forked p q) kept = tt
   machine_keeps (Saved p name q) kept = tt
+  machine_keeps (Shared pages) kept = tt
   machine_keeps (Refused code) kept = tt
   machine_keeps (Full needed limit) kept = tt
   machine_keeps Memory kept = same_session kept

@@ -7,7 +7,7 @@ use Rattle.ledger.specs.AmpleLaws.{AreAmple}
 use Rattle.machine_core.specs.Ample.{within_ample}
 use Rattle.machine_core.specs.Process.{Process, Whole}
 use Rattle.report_text.specs.declared.answer.Answer.{Answer}
-use Rattle.report_text.specs.declared.answer.Answer.TheVariants.{Done, Loaded, Forked, Saved, Refused, Full, Memory}
+use Rattle.report_text.specs.declared.answer.Answer.TheVariants.{Done, Loaded, Forked, Saved, Shared, Refused, Full, Memory}
 use Rattle.report_text.specs.declared.answer.Code.{Code}
 use Rattle.report_text.specs.declared.answer.Code.TheVariants.{NoCheckpoint, NoProcess, NotSpeculating}
 use Rattle.rv_asm.specs.Assembly.{assembled}
@@ -17,10 +17,10 @@ use Rattle.command_core.specs.declared.process_changes.ProcessChange.{ProcessCha
 use Rattle.command_core.specs.declared.process_changes.ProcessChange.TheVariants.{Speculate, Commit, Discard, Promote, PromoteAll, Map, Unmap, Set}
 use Rattle.command_core.specs.State.{Checkpoint, Registry, State, registry_of}
 use Rattle.command_core.specs.Sessions.{InSession}
-use Rattle.command_core.specs.Rows.{Row, accepts, change_by, falls_short, first_refusal, row_is_full, ledger_by, plain_row, refused_row, refuses}
+use Rattle.command_core.specs.Rows.{Row, accepts, change_by, falls_short, first_refusal, row_is_full, ledger_by, plain_row, refused_row, refuses, registered}
 use Rattle.command_core.specs.Giving.{ComesTo, is_full_answer}
-use Rattle.command_core.specs.CommandCases.{asm_itself, change_itself}
-use Rattle.command_core.specs.Changes.{asm_row, change_row, drop_row, load_row, on_process}
+use Rattle.command_core.specs.CommandCases.{asm_itself, row_itself}
+use Rattle.command_core.specs.Changes.{asm_row, change_row, drop_row, load_row, on_process, row_in}
 use Rattle.command_core.specs.Copies.{fork_row}
 use Rattle.command_core.specs.Debugging.{break_row, poke_row, unbreak_row}
 use Rattle.command_core.specs.Checkpoints.{checkpoint_named, checkpoint_row, forget_row, on_checkpoint, restore_row}
@@ -33,9 +33,8 @@ abbrev pub IsAmpleFor : Row → State → Type 0
 IsAmpleFor row state = AreAmple state.wholes.frames (ledger_by row.event state.wholes.ledger)
 
 -- so it is of a session, in any of the states that it stands for
-abbrev pub IsAmplyDone : (Registry → Row) → InSession → Answer → Type 0
-IsAmplyDone row session answer =
-    (state : State) → SessionStandsFor session state → IsAmpleFor (row (registry_of state)) state → is_full_answer answer ≡ false
+abbrev pub IsAmplyDone : (State → Row) → InSession → Answer → Type 0
+IsAmplyDone row session answer = (state : State) → SessionStandsFor session state → IsAmpleFor (row state) state → is_full_answer answer ≡ false
 
 second_and : (x y : Bool) → y ≡ false → (x && y) ≡ false
 second_and true y h = h
@@ -54,11 +53,11 @@ ample_change row state itself ample = by_cases (first_refusal row.refusals) (row
     by_cases None true same = cc
     by_cases None false same = itself
 
-module _ (row : Registry → Row) (old new : InSession) (itself : (registry : Registry) → is_full_answer (row registry).answer ≡ false) where
-  amply_each : (answer : Answer) → ((state : State) → SessionStandsFor old state → ComesTo (change_by (row (registry_of state)) state) answer new.state)
+module _ (row : State → Row) (old new : InSession) (itself : (state : State) → is_full_answer (row state).answer ≡ false) where
+  amply_each : (answer : Answer) → ((state : State) → SessionStandsFor old state → ComesTo (change_by (row state) state) answer new.state)
       → IsAmplyDone row old answer
   amply_each answer comes state stands ample =
-      ap is_full_answer (comes state stands).answer_is ∙ ample_change (row (registry_of state)) state (itself (registry_of state)) ample
+      ap is_full_answer (comes state stands).answer_is ∙ ample_change (row state) state (itself state) ample
 
   amply_done : (answer : Answer) → GivesAs row old answer new → IsAmplyDone row old answer
   amply_done (Full units limit) gives state stands ample = amply_each (Full units limit) gives state stands ample
@@ -66,15 +65,19 @@ module _ (row : Registry → Row) (old new : InSession) (itself : (registry : Re
   amply_done (Loaded p pages entry) gives state stands ample = refl
   amply_done (Forked p q) gives state stands ample = refl
   amply_done (Saved p name space) gives state stands ample = refl
+  amply_done (Shared pages) gives state stands ample = refl
   amply_done (Refused code) gives state stands ample = refl
   amply_done Memory gives state stands ample = refl
 
-pub amply_changed : (file : List ℕ) (c : Command) (old new : InSession) (answer : Answer) → GivesAs (change_row file c) old answer new
-    → IsAmplyDone (change_row file c) old answer
-amply_changed file c old new answer gives = amply_done (change_row file c) old new (change_itself file c) answer gives
+pub amply_changed : (file : List ℕ) (c : Command) (old new : InSession) (answer : Answer) → GivesAs (row_in file c) old answer new
+    → IsAmplyDone (row_in file c) old answer
+amply_changed file c old new answer gives = amply_done (row_in file c) old new (row_itself file c) answer gives
 
-pub amply_loaded : (file : List ℕ) (old new : InSession) (answer : Answer) → GivesAs (load_row file) old answer new → IsAmplyDone (load_row file) old answer
-amply_loaded file old new answer gives = amply_done (load_row file) old new (λ registry. refl) answer gives
+pub amply_loaded : (file : List ℕ) (old new : InSession) (answer : Answer) → GivesAs (registered (load_row file)) old answer new
+    → IsAmplyDone (registered (load_row file)) old answer
+amply_loaded file old new answer gives = amply_done (registered (load_row file)) old new (λ state. refl) answer gives
 
-pub amply_assembled : (text : List ℕ) (old new : InSession) (answer : Answer) → GivesAs (asm_row text) old answer new → IsAmplyDone (asm_row text) old answer
-amply_assembled text old new answer gives = amply_done (asm_row text) old new (asm_itself (assembled text)) answer gives
+pub amply_assembled : (text : List ℕ) (old new : InSession) (answer : Answer) → GivesAs (registered (asm_row text)) old answer new
+    → IsAmplyDone (registered (asm_row text)) old answer
+amply_assembled text old new answer gives =
+    amply_done (registered (asm_row text)) old new (λ state. asm_itself (assembled text) (registry_of state)) answer gives

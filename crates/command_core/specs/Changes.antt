@@ -19,13 +19,14 @@ use Rattle.report_text.specs.Answers.{HasAnswerLine}
 use Rattle.script_text.specs.declared.command.Command.{Command}
 use Rattle.script_text.specs.declared.command.Command.TheVariants as command
 use Rattle.command_core.specs.declared.process_changes.ProcessChange.TheVariants.{Speculate, Commit, Discard, Promote, PromoteAll, Map, Unmap, Set}
-use Rattle.command_core.specs.State.{Registry, next_number}
-use Rattle.command_core.specs.Rows.{Row, TakesFirst, plain_row, refused_row, still_row}
+use Rattle.command_core.specs.State.{Registry, State, next_number}
+use Rattle.command_core.specs.Rows.{Row, TakesFirst, plain_row, refused_row, registered, still_row}
 use Rattle.command_core.specs.Refusals.{by_numbers_used, number_in}
 use Rattle.command_core.specs.Copies.{draws, fork_row}
 use Rattle.command_core.specs.ProcessChanges.{process_row}
 use Rattle.command_core.specs.Debugging.{break_row, poke_row, unbreak_row}
 use Rattle.command_core.specs.Checkpoints.{checkpoint_row, forget_row, on_checkpoint, restore_row}
+use Rattle.command_core.specs.Deduplication.{dedup_all_row, dedup_row}
 
 -- The changes that commands make.
 
@@ -69,8 +70,8 @@ drop_row p process registry =
     plain_row false (Some p) [] (event.Drop p)
     (record registry { processes = remove registry.processes p; breakpoints = remove registry.breakpoints p })
 
--- The changes, a row each, with the file that a command asks for. Compaction moves segments, which no state shows. Commands that take
--- turns or print have no row of their own here: as changes they do nothing.
+-- The changes that go by what is registered, a row each, with the file that a command asks for. Compaction moves segments, which no state
+-- shows. Commands that take turns or print, and those that are told by the ledger, have no row of their own here: as changes they do nothing.
 abbrev pub change_row : List ℕ → Command → Registry → Row
 change_row file (command.Load name) = load_row file
 change_row file (command.Asm name) = asm_row file
@@ -96,9 +97,58 @@ change_row file (command.Run turns) = still_row
 change_row file (command.Step p turns) = still_row
 change_row file command.List = still_row
 change_row file command.Stats = still_row
+change_row file (command.Dedup p address q other) = still_row
+change_row file (command.DedupAll p q) = still_row
 change_row file (command.Regs p) = still_row
 change_row file (command.Dump p address count) = still_row
 change_row file (command.Disasm p address words) = still_row
+
+-- What only the ledger can tell: the counts, and the changes whose rows look at it.
+pub data LedgerTold : Type 0 where
+  TellsCounts : LedgerTold
+  TellsDedup : (p address q other : ℕ) → LedgerTold
+  TellsDedupAll : (p q : ℕ) → LedgerTold
+
+abbrev pub told_by_ledger : Command → Option LedgerTold
+told_by_ledger command.Stats = Some TellsCounts
+told_by_ledger (command.Dedup p address q other) = Some (TellsDedup p address q other)
+told_by_ledger (command.DedupAll p q) = Some (TellsDedupAll p q)
+told_by_ledger (command.Load name) = None
+told_by_ledger (command.Asm name) = None
+told_by_ledger (command.Exec name turns) = None
+told_by_ledger (command.Run turns) = None
+told_by_ledger (command.Step p turns) = None
+told_by_ledger (command.Fork p) = None
+told_by_ledger (command.Checkpoint p name) = None
+told_by_ledger (command.Restore p name) = None
+told_by_ledger (command.Forget name) = None
+told_by_ledger (command.Speculate p) = None
+told_by_ledger (command.Commit p) = None
+told_by_ledger (command.Discard p) = None
+told_by_ledger (command.Promote p address) = None
+told_by_ledger (command.PromoteAll p) = None
+told_by_ledger command.Compact = None
+told_by_ledger (command.Map p address n perms) = None
+told_by_ledger (command.Unmap p address n) = None
+told_by_ledger (command.Drop p) = None
+told_by_ledger (command.Poke p address bytes) = None
+told_by_ledger (command.Set p register value) = None
+told_by_ledger (command.Break p address) = None
+told_by_ledger (command.Unbreak p address) = None
+told_by_ledger command.List = None
+told_by_ledger (command.Regs p) = None
+told_by_ledger (command.Dump p address count) = None
+told_by_ledger (command.Disasm p address words) = None
+
+-- its row, where the counts change nothing
+abbrev pub ledger_row : LedgerTold → State → Row
+ledger_row TellsCounts = registered still_row
+ledger_row (TellsDedup p address q other) = dedup_row p address q other
+ledger_row (TellsDedupAll p q) = dedup_all_row p q
+
+-- the row of each change, in a state
+abbrev pub row_in : List ℕ → Command → State → Row
+row_in file command = option_map_or (λ tells. ledger_row tells) (told_by_ledger command) (registered (change_row file command))
 
 -- what is answered where a machine doesn't load a file, or doesn't copy a space
 abbrev pub answer_of : SpaceError → Answer

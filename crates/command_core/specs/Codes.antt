@@ -70,8 +70,8 @@ bases_code = code coded_ℕ bytes_code
 
 abbrev pub modes_code : Coded Modes
 modes_code =
-    code_by (ℕ × (ℕ × Bool)) (coded× coded_ℕ (coded× coded_ℕ coded_bool)) (λ m. (m.frames, (m.quantum, m.extension)))
-    (λ t. record { frames = t.0; quantum = t.1.0; extension = t.1.1 }) (λ _. refl)
+    code_by (ℕ × (ℕ × (Bool × Bool))) (coded× coded_ℕ (coded× coded_ℕ (coded× coded_bool coded_bool))) (λ m. (m.frames, (m.quantum, (m.extension, m.calls))))
+    (λ t. record { frames = t.0; quantum = t.1.0; extension = t.1.1.0; calls = t.1.1.1 }) (λ _. refl)
 
 abbrev pub session_code : Coded InSession
 session_code =

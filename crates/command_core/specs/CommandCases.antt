@@ -11,67 +11,41 @@ use Rattle.script_text.specs.declared.command.Command.TheVariants as command
 use Rattle.command_core.specs.declared.modes.Modes.{Modes}
 use Rattle.command_core.specs.declared.process_changes.ProcessChange.{ProcessChange}
 use Rattle.command_core.specs.declared.process_changes.ProcessChange.TheVariants.{Speculate, Commit, Discard, Promote, PromoteAll, Map, Unmap, Set}
-use Rattle.command_core.specs.State.{Checkpoint, Registry, State}
-use Rattle.command_core.specs.Rows.{Row, plain_row, refused_row}
+use Rattle.command_core.specs.State.{Checkpoint, Registry, State, registry_of}
+use Rattle.command_core.specs.Rows.{Row, plain_row, refused_row, registered}
 use Rattle.command_core.specs.Giving.{is_full_answer}
 use Rattle.command_core.specs.Copies.{fork_row}
 use Rattle.command_core.specs.ProcessChanges.{after_discard, leaves, process_row}
 use Rattle.command_core.specs.Checkpoints.{checkpoint_named, checkpoint_row, forget_row, on_checkpoint, restore_row}
 use Rattle.command_core.specs.Debugging.{break_row, poke_row, unbreak_row}
-use Rattle.command_core.specs.Changes.{asm_by, change_row, drop_row, on_process}
-use Rattle.command_core.specs.Commands.{Performed, Rules, change_told, performed_by, stats_done}
+use Rattle.command_core.specs.Changes.{LedgerTold, TellsCounts, TellsDedup, TellsDedupAll, asm_by, change_row, drop_row, ledger_row, on_process, row_in, told_by_ledger}
+use Rattle.command_core.specs.Commands.{Rules, change_told, ledger_done, performed_by}
 
--- The commands case by case: those that take turns or print, each for itself, and all others as changes, each by its row. What holds of
--- a command by the rules of a machine, or of two machines at once, is shown case by case of this.
-
--- what is told by the ledger
-abbrev pub ledger_done : Command → Option (State → Performed State)
-ledger_done command.Stats = Some stats_done
-ledger_done (command.Load name) = None
-ledger_done (command.Asm name) = None
-ledger_done (command.Exec name turns) = None
-ledger_done (command.Run turns) = None
-ledger_done (command.Step p turns) = None
-ledger_done (command.Fork p) = None
-ledger_done (command.Checkpoint p name) = None
-ledger_done (command.Restore p name) = None
-ledger_done (command.Forget name) = None
-ledger_done (command.Speculate p) = None
-ledger_done (command.Commit p) = None
-ledger_done (command.Discard p) = None
-ledger_done (command.Promote p address) = None
-ledger_done (command.PromoteAll p) = None
-ledger_done command.Compact = None
-ledger_done (command.Map p address n perms) = None
-ledger_done (command.Unmap p address n) = None
-ledger_done (command.Drop p) = None
-ledger_done (command.Poke p address bytes) = None
-ledger_done (command.Set p register value) = None
-ledger_done (command.Break p address) = None
-ledger_done (command.Unbreak p address) = None
-ledger_done command.List = None
-ledger_done (command.Regs p) = None
-ledger_done (command.Dump p address count) = None
-ledger_done (command.Disasm p address words) = None
+-- The commands case by case: those that take turns or print, each for itself; those that are told by the ledger; and all others as changes,
+-- each by its row. What holds of a command by the rules of a machine, or of two machines at once, is shown case by case of this.
 
 pub data GoesBy {S T : Type 0} (x : Rules S) (y : Rules T) (modes : Modes) (file : List ℕ) : Command → Type 0 where
   ByExec : (name : List ℕ) (turns : ℕ) → GoesBy x y modes file (command.Exec name turns)
   ByRun : (turns : ℕ) → GoesBy x y modes file (command.Run turns)
   ByStep : (p turns : ℕ) → GoesBy x y modes file (command.Step p turns)
   ByList : GoesBy x y modes file command.List
-  ByStats : GoesBy x y modes file command.Stats
   ByRegs : (p : ℕ) → GoesBy x y modes file (command.Regs p)
   ByDump : (p address count : ℕ) → GoesBy x y modes file (command.Dump p address count)
   ByDisasm : (p address words : ℕ) → GoesBy x y modes file (command.Disasm p address words)
+  ByLedger : (c : Command) (tells : LedgerTold) → ((state : S) → performed_by x modes file c state ≡ x.by_ledger (ledger_done tells) state)
+      → ((state : T) → performed_by y modes file c state ≡ y.by_ledger (ledger_done tells) state) → told_by_ledger c ≡ Some tells → GoesBy x y modes file c
   ByChange : (c : Command) → ((state : S) → performed_by x modes file c state ≡ change_told x file c state)
-      → ((state : T) → performed_by y modes file c state ≡ change_told y file c state) → ledger_done c ≡ None → GoesBy x y modes file c
+      → ((state : T) → performed_by y modes file c state ≡ change_told y file c state) → told_by_ledger c ≡ None → GoesBy x y modes file c
 
 pub goes_by : {S T : Type 0} (x : Rules S) (y : Rules T) (modes : Modes) (file : List ℕ) (c : Command) → GoesBy x y modes file c
 goes_by x y modes file (command.Exec name turns) = ByExec name turns
 goes_by x y modes file (command.Run turns) = ByRun turns
 goes_by x y modes file (command.Step p turns) = ByStep p turns
 goes_by x y modes file command.List = ByList
-goes_by x y modes file command.Stats = ByStats
+goes_by x y modes file command.Stats = ByLedger command.Stats TellsCounts (λ state. refl) (λ state. refl) refl
+goes_by x y modes file (command.Dedup p address q other) =
+    ByLedger (command.Dedup p address q other) (TellsDedup p address q other) (λ state. refl) (λ state. refl) refl
+goes_by x y modes file (command.DedupAll p q) = ByLedger (command.DedupAll p q) (TellsDedupAll p q) (λ state. refl) (λ state. refl) refl
 goes_by x y modes file (command.Regs p) = ByRegs p
 goes_by x y modes file (command.Dump p address count) = ByDump p address count
 goes_by x y modes file (command.Disasm p address words) = ByDisasm p address words
@@ -158,3 +132,15 @@ change_itself file (command.Dump p address n) registry = refl
 change_itself file (command.Disasm p address n) registry = refl
 change_itself file command.List registry = refl
 change_itself file command.Stats registry = refl
+change_itself file (command.Dedup p address q other) registry = refl
+change_itself file (command.DedupAll p q) registry = refl
+
+pub row_itself : (file : List ℕ) (c : Command) (state : State) → is_full_answer (row_in file c state).answer ≡ false
+row_itself file c state = by_told (told_by_ledger c)
+  where
+    by_told : (tells : Option LedgerTold)
+        → is_full_answer (option_map_or (λ tells. ledger_row tells) tells (registered (change_row file c)) state).answer ≡ false
+    by_told None = change_itself file c (registry_of state)
+    by_told (Some TellsCounts) = refl
+    by_told (Some (TellsDedup p address q other)) = refl
+    by_told (Some (TellsDedupAll p q)) = refl

@@ -22,9 +22,10 @@ use Rattle.script_text.specs.Given.{asks}
 use Rattle.command_core.specs.State.{Checkpoint, Registry, State, registry_of, with_wholes}
 use Rattle.command_core.specs.Sessions.{InSession}
 use Rattle.command_core.specs.Rows.{Changed, Row, change_by, may_want_memory, refuses}
-use Rattle.command_core.specs.Changes.{asm_row, change_row, load_row}
+use Rattle.command_core.specs.Changes.{LedgerTold, TellsCounts, TellsDedup, TellsDedupAll, asm_row, change_row, load_row}
+use Rattle.command_core.specs.Deduplication.{dedup_all_row, dedup_row}
 use Rattle.command_core.specs.Looks.{counts_of}
-use Rattle.command_core.specs.Turns.{InRun, Progress, begun_alone, by_turns, left_of, ran_from, ran_text}
+use Rattle.process_runs.specs.Turns.{InRun, Progress, begun_alone, by_turns, left_of, ran_from, ran_text}
 
 -- What a command asks of the shelf, by the file that it names: nothing; or the file is there, isn't there, or
 -- has more bytes than a file may have.
@@ -65,7 +66,7 @@ pub record Performed (S : Type 0) : Type 0 where
   pub wants_memory : Bool
 
 -- By which rules a machine does commands: what is registered in it; what a row comes to, and whether that may want memory; turns; and
--- what only the ledger of the copying machine can tell, of which another machine knows no more than the line.
+-- what only the ledger of the copying machine can tell, of which another machine knows no more than the line: it leaves what is registered.
 pub record Rules (S : Type 0) : Type 0 where
   pub registry : S → Registry
   pub change : Row → S → Changed S
@@ -108,6 +109,15 @@ stats_text state = counts_text (counts_of state.wholes)
 
 abbrev pub stats_done : State → Performed State
 stats_done state = text_printed false (stats_text state) state
+
+-- what is told by the ledger: the counts are printed, and a change is done by its row, and wants no memory
+abbrev pub shares_done : (State → Row) → State → Performed State
+shares_done row state = told false (change_by (row state) state)
+
+abbrev pub ledger_done : LedgerTold → State → Performed State
+ledger_done TellsCounts = stats_done
+ledger_done (TellsDedup p address q other) = shares_done (dedup_row p address q other)
+ledger_done (TellsDedupAll p q) = shares_done (dedup_all_row p q)
 
 abbrev pub rules : Rules State
 rules = record { registry = registry_of; change = change_by; wants = may_want_memory; turns = takes_turns; by_ledger = λ done. done }
@@ -201,38 +211,38 @@ module _ {S : Type 0} (by : Rules S) where
   change_told file command state = row_told (change_row file command (by.registry state)) state
 
   -- what follows the load of an `exec`: the turns of its process, where it made one
-  abbrev pub exec_turns : ℕ → Answer → S → Performed S
-  exec_turns turns (Loaded p pages entry) = by.turns (begun_alone p turns)
-  exec_turns turns other = text_printed false []
+  abbrev pub exec_turns : Bool → ℕ → Answer → S → Performed S
+  exec_turns calls turns (Loaded p pages entry) = by.turns (begun_alone p calls turns)
+  exec_turns calls turns other = text_printed false []
 
-  abbrev pub exec_done : List ℕ → ℕ → S → Performed S
-  exec_done file turns state =
+  abbrev pub exec_done : Bool → List ℕ → ℕ → S → Performed S
+  exec_done calls file turns state =
       let loaded = load_told file state in
-      let ran = exec_turns turns (by.change (load_row file (by.registry state)) state).answer loaded.after in
+      let ran = exec_turns calls turns (by.change (load_row file (by.registry state)) state).answer loaded.after in
       record { text = loaded.text ++ ran.text; after = ran.after; wants_memory = loaded.wants_memory || ran.wants_memory }
 
   -- the line of a load's answer, and the turns that follow it
-  abbrev pub tells_exec : ℕ → Answer → S → Performed S
-  tells_exec turns answer state = record {
-    text = answer_text answer ++ (exec_turns turns answer state).text;
-    after = (exec_turns turns answer state).after;
+  abbrev pub tells_exec : Bool → ℕ → Answer → S → Performed S
+  tells_exec calls turns answer state = record {
+    text = answer_text answer ++ (exec_turns calls turns answer state).text;
+    after = (exec_turns calls turns answer state).after;
     wants_memory = true;
   }
 
   -- the turns of one process, which has to be there and to run
-  abbrev pub steps : ℕ → ℕ → Option Process → S → Performed S
-  steps p turns None state = told false (refuses NoProcess state)
-  steps p turns (Some process) state = if runs process.state then by.turns (begun_alone p turns) state else told false (refuses Ended state)
+  abbrev pub steps : Bool → ℕ → ℕ → Option Process → S → Performed S
+  steps calls p turns None state = told false (refuses NoProcess state)
+  steps calls p turns (Some process) state = if runs process.state then by.turns (begun_alone p calls turns) state else told false (refuses Ended state)
 
   abbrev pub process_in : ℕ → S → Option Process
   process_in p state = get (by.registry state).processes p
 
-  abbrev pub step_done : ℕ → ℕ → S → Performed S
-  step_done p turns state = steps p turns (process_in p state) state
+  abbrev pub step_done : Bool → ℕ → ℕ → S → Performed S
+  step_done calls p turns state = steps calls p turns (process_in p state) state
 
   -- the turns of all that run, by round robin
-  abbrev pub run_done : ℕ → ℕ → S → Performed S
-  run_done quantum turns state = by.turns (by_turns quantum turns) state
+  abbrev pub run_done : ℕ → Bool → ℕ → S → Performed S
+  run_done quantum calls turns state = by.turns (by_turns quantum calls turns) state
 
   -- what is printed
   abbrev pub list_done : S → Performed S
@@ -251,11 +261,13 @@ module _ {S : Type 0} (by : Rules S) where
   -- What each command comes to, with the file that it has, by what is fixed for the run: turns and printed lines, and the
   -- changes, each by its row.
   abbrev pub performed_by : Modes → List ℕ → Command → S → Performed S
-  performed_by modes file (Exec name turns) = exec_done file turns
-  performed_by modes file (Run turns) = run_done modes.quantum turns
-  performed_by modes file (Step p turns) = step_done p turns
+  performed_by modes file (Exec name turns) = exec_done modes.calls file turns
+  performed_by modes file (Run turns) = run_done modes.quantum modes.calls turns
+  performed_by modes file (Step p turns) = step_done modes.calls p turns
   performed_by modes file command.List = list_done
-  performed_by modes file command.Stats = by.by_ledger stats_done
+  performed_by modes file command.Stats = by.by_ledger (ledger_done TellsCounts)
+  performed_by modes file (command.Dedup p address q other) = by.by_ledger (ledger_done (TellsDedup p address q other))
+  performed_by modes file (command.DedupAll p q) = by.by_ledger (ledger_done (TellsDedupAll p q))
   performed_by modes file (command.Regs p) = regs_done p
   performed_by modes file (command.Dump p address count) = dump_done p address count
   performed_by modes file (command.Disasm p address words) = disasm_done modes.extension p address words

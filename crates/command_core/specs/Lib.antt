@@ -1,5 +1,5 @@
 -- In reading order: the copying machine's state, what a session keeps, what a change is and comes to, what a fork makes, what speculation
--- and promotion make of a process, checkpoints, what the debugger changes, all changes, the turns of processes, what each command comes to
+-- and promotion make of a process, checkpoints, what the debugger changes, all changes, what puts pages on others, the turns of processes, what each command comes to
 -- and by which cases, and what is looked up.
 pub mod State
 pub mod Sessions
@@ -14,11 +14,12 @@ pub mod Mapping
 pub mod Checkpoints
 pub mod Debugging
 pub mod Changes
-pub mod Turns
+pub mod Deduplication
 pub mod Commands
 pub mod CommandCases
 pub mod Looks
 pub mod Standing
+pub mod DeduplicationLaws
 pub mod LikeLaws
 pub mod Ample
 pub mod Unbounded

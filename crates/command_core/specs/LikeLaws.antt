@@ -15,7 +15,7 @@ use Rattle.machine_core.specs.Turns.{after_turn, turn_of}
 use Rattle.machine_core.specs.Laws.{like_after_turn, like_chain, like_itself, like_running, like_turn}
 use Rattle.round_robin.specs.Turns.{next_number}
 use Rattle.report_text.specs.declared.answer.Answer.{Answer}
-use Rattle.report_text.specs.declared.answer.Answer.TheVariants.{Done, Loaded, Forked, Saved, Refused, Full, Memory}
+use Rattle.report_text.specs.declared.answer.Answer.TheVariants.{Done, Loaded, Forked, Saved, Shared, Refused, Full, Memory}
 use Rattle.report_text.specs.declared.answer.Code.{Code}
 use Rattle.report_text.specs.declared.answer.Code.TheVariants.{Ended}
 use Rattle.report_text.specs.Lines.{list_line}
@@ -24,18 +24,20 @@ use Rattle.report_text.specs.declared.answer.Stop.TheVariants as stop
 use Rattle.report_text.specs.Answers.{answer_text, stop_text, turn_text}
 use Rattle.script_text.specs.declared.command.Command.{Command}
 use Rattle.command_core.specs.declared.modes.Modes.{Modes}
-use Rattle.command_core.specs.declared.turns.Order.{Order}
-use Rattle.command_core.specs.declared.turns.Order.TheVariants.{ByTurns, Alone}
+use Rattle.process_runs.specs.declared.turns.Order.{Order}
+use Rattle.process_runs.specs.declared.turns.Order.TheVariants.{ByTurns, Alone}
 use Rattle.command_core.specs.declared.TheConstants.{WORD_BYTES}
 use Rattle.command_core.specs.State.{AreLikeStates, Checkpoint, Registry, State, registry_of, with_wholes}
 use Rattle.command_core.specs.Sessions.{InSession}
-use Rattle.command_core.specs.Rows.{Changed, Row, accepts, change_by, event_needs, falls_short, first_refusal, flushed_by, row_is_full, ledger_by, may_want_memory, refuses, wants_by, within_units}
+use Rattle.command_core.specs.Rows.{Changed, Row, accepts, change_by, event_needs, falls_short, first_refusal, flushed_by, row_is_full, ledger_by, may_want_memory, refuses, registered, still_row, wants_by, within_units}
 use Rattle.command_core.specs.Giving.{ComesTo, GivesChange}
-use Rattle.command_core.specs.Changes.{change_row, load_row}
-use Rattle.command_core.specs.Turns.{InRun, Progress, Ran, break_at, ending, ending_by, event_then, first_event, last_break, left_by, left_of, next_of, begun_alone, by_turns, ran, ran_text, rest_of, run_after, run_found, stopped, turns_by, ran_from, unless_broken}
+use Rattle.command_core.specs.Changes.{LedgerTold, TellsCounts, TellsDedup, TellsDedupAll, change_row, ledger_row, load_row, row_in, told_by_ledger}
+use Rattle.process_runs.specs.Turns.{Progress, begun_alone, by_turns, ran_from, ran_text}
 use Rattle.command_core.specs.Looks.{counts_of}
-use Rattle.command_core.specs.Commands.{Performed, change_told, checkpoint_text, counts_text, disasm_text, dump_text, exec_done, exec_turns, list_head, list_text, performed, prints_of, prints_read, process_text, regs_done, regs_of, row_told, stats_text, step_done, steps, takes_turns, told, rules}
-use Rattle.command_core.specs.CommandCases.{GoesBy, ByExec, ByRun, ByStep, ByList, ByStats, ByRegs, ByDump, ByDisasm, ByChange, goes_by}
+use Rattle.command_core.specs.Commands.{Performed, change_told, checkpoint_text, counts_text, disasm_text, dump_text, exec_done, exec_turns, ledger_done, list_head, list_text, performed, prints_of, prints_read, process_text, regs_done, regs_of, row_told, stats_text, step_done, steps, takes_turns, told, rules}
+use Rattle.command_core.specs.CommandCases.{GoesBy, ByExec, ByRun, ByStep, ByList, ByRegs, ByDump, ByDisasm, ByLedger, ByChange, goes_by}
+use Rattle.command_core.specs.Deduplication.{dedup_all_row, dedup_row}
+use Rattle.command_core.specs.DeduplicationLaws.{dedup_all_same, dedup_same}
 use Rattle.command_core.specs.Standing.{GivesAs}
 
 -- States that differ in the numbers of origins alone come to the same texts, and stay so.
@@ -55,139 +57,6 @@ states_same a b same = subst (AreLikeStates a) same (states_itself a)
 
 pub processes_same : (a b : State) → AreLikeStates a b → a.wholes.processes ≡ b.wholes.processes
 processes_same a b like = like.wholes.processes
-
--- Turns.
-
-module _ (a b : Wholes) (like : AreLike a b) where
-  pub like_next : (order : Order) → next_of a order ≡ next_of b order
-  like_next (ByTurns turns) = ap (λ (ps : Processes). next_number turns (running_among ps)) like.processes
-  like_next (Alone p) = ap (λ c. cond c (Some p) None) (like_running p a b like)
-
-  pub like_break : (breaks : Breaks) (run : Progress) → last_break breaks a run ≡ last_break breaks b run
-  like_break breaks run = ap (λ (ps : Processes). option_and_then (λ p. option_and_then (break_at breaks p) (get ps p)) run.last) like.processes
-
-  pub like_ending : (breaks : Breaks) (run : Progress) → ending breaks a run ≡ ending breaks b run
-  like_ending breaks run =
-      ap (λ o. option_or o (ending_by (next_of a run.order) run)) (like_break breaks run)
-      ∙ ap (λ n. option_or (last_break breaks b run) (ending_by n run)) (like_next run.order)
-
-  pub like_found : (breaks : Breaks) (run : Progress) → run_found breaks a run ≡ run_found breaks b run
-  like_found breaks run = ap (λ s. record { run = run; stop = s }) (like_ending breaks run)
-
-pub record AreLikeRans (r s : Ran Wholes) : Type 0 where
-  pub events : r.events ≡ s.events
-  pub stop_is : r.stop ≡ s.stop
-  pub taken : r.taken ≡ s.taken
-  pub after : AreLike r.after s.after
-
-pub like_text : (r s : Ran Wholes) → AreLikeRans r s → ran_text r ≡ ran_text s
-like_text r s like =
-    ap (λ (es : List (ℕ × Turn)). flat_map (λ event. turn_text event.0 event.1) es ++ stop_text r.taken r.stop) like.events
-    ∙ ap (λ n. flat_map (λ event. turn_text event.0 event.1) s.events ++ stop_text n r.stop) like.taken
-    ∙ ap (λ x. flat_map (λ event. turn_text event.0 event.1) s.events ++ stop_text s.taken x) like.stop_is
-
-like_stopped : (why : Stop) (a b : Wholes) (run : Progress) → AreLike a b → AreLikeRans (stopped why a run) (stopped why b run)
-like_stopped why a b run like = record { events = refl; stop_is = refl; taken = refl; after = like }
-
-like_first : (p : ℕ) (t : Turn) (r s : Ran Wholes) → AreLikeRans r s → AreLikeRans (first_event p t r) (first_event p t s)
-like_first p t r s like = record { events = ap (λ (es : List (ℕ × Turn)). (p, t) ∷ es) like.events; stop_is = like.stop_is; taken = like.taken; after = like.after }
-
-like_then : (p : ℕ) (t : Turn) (r s : Ran Wholes) (a b : Wholes) (run : Progress) → AreLikeRans r s → AreLike a b → AreLikeRans (event_then p t r a run) (event_then p t s b run)
-like_then p turn.Stepped r s a b run h like = like_first p turn.Stepped r s h
-like_then p (turn.Wrote written) r s a b run h like = like_first p (turn.Wrote written) r s h
-like_then p (turn.Exited code) r s a b run h like = like_first p (turn.Exited code) r s h
-like_then p (turn.Faulted kind at) r s a b run h like = like_first p (turn.Faulted kind at) r s h
-like_then p (turn.Full units limit) r s a b run h like = like_first p (turn.Full units limit) _ _ (like_stopped stop.Full a b run like)
-
-like_by : (next : Option ℕ) (f g : ℕ → Ran Wholes) (a b : Wholes) (run : Progress) → AreLike a b → ((p : ℕ) → AreLikeRans (f p) (g p)) → AreLikeRans (turns_by (turn_of a) (after_turn a) next f a run) (turns_by (turn_of b) (after_turn b) next g b run)
-like_by None f g a b run like h = like_stopped (rest_of run.order) a b run like
-like_by (Some p) f g a b run like h =
-    subst (λ t. AreLikeRans (event_then p (turn_of a p) (f p) (after_turn a p) run) (event_then p t (g p) (after_turn b p) run)) (like_turn p a b like)
-    (like_then p (turn_of a p) (f p) (g p) (after_turn a p) (after_turn b p) run (h p) (like_after_turn p a b like))
-
-like_unless : (o : Option Stop) (r s : Ran Wholes) (a b : Wholes) (run : Progress) → AreLikeRans r s → AreLike a b → AreLikeRans (unless_broken o r a run) (unless_broken o s b run)
-like_unless None r s a b run h like = h
-like_unless (Some why) r s a b run h like = like_stopped why a b run like
-
-module _ (breaks : Breaks) where
-  like_broken : (r s : Ran Wholes) (a b : Wholes) (run : Progress) → AreLike a b → AreLikeRans r s
-      → AreLikeRans (unless_broken (last_break breaks a run) r a run) (unless_broken (last_break breaks b run) s b run)
-  like_broken r s a b run like h =
-      subst (λ o. AreLikeRans (unless_broken (last_break breaks a run) r a run) (unless_broken o s b run)) (like_break a b like breaks run)
-      (like_unless (last_break breaks a run) r s a b run h like)
-
-  pub like_ran : (left : ℕ) (a b : Wholes) (run : Progress) → AreLike a b → AreLikeRans (ran breaks left a run) (ran breaks left b run)
-  like_ran zero a b run like =
-      like_broken _ _ a b run like
-      (subst (λ (n : Option ℕ). AreLikeRans (stopped (option_map_or (λ p. stop.Limit) (next_of a run.order) (rest_of run.order)) a run)
-      (stopped (option_map_or (λ p. stop.Limit) n (rest_of run.order)) b run)) (like_next a b like run.order)
-      (like_stopped (option_map_or (λ p. stop.Limit) (next_of a run.order) (rest_of run.order)) a b run like))
-  like_ran (suc left) a b run like =
-      like_broken _ _ a b run like
-      (subst (λ (n : Option ℕ). AreLikeRans (turns_by (turn_of a) (after_turn a) (next_of a run.order) (λ p. ran breaks left (after_turn a p) (run_after p run)) a run)
-      (turns_by (turn_of b) (after_turn b) n (λ p. ran breaks left (after_turn b p) (run_after p run)) b run)) (like_next a b like run.order)
-      (like_by (next_of a run.order) (λ p. ran breaks left (after_turn a p) (run_after p run)) (λ p. ran breaks left (after_turn b p) (run_after p run)) a b run like
-      (λ p. like_ran left (after_turn a p) (after_turn b p) (run_after p run) (like_after_turn p a b like))))
-
-  pub like_left : (a b : Wholes) (running : InRun) → AreLike a b → AreLikeRans (left_of breaks a running) (left_of breaks b running)
-  like_left a b running like = by_stop running.stop
-    where
-      by_stop : (found : Option Stop) → AreLikeRans (left_by found breaks a running.run) (left_by found breaks b running.run)
-      by_stop None = like_ran _ a b running.run like
-      by_stop (Some why) = like_stopped why a b running.run like
-
--- turns that have ended
-limit_stop : (b : Bool) (why : Stop) → cond b (Some stop.Limit) None ≡ Some why → (b ≡ true) × (stop.Limit ≡ why)
-limit_stop true why is = (refl, cc)
-limit_stop false why is = cc
-
-module _ (breaks : Breaks) (state : Wholes) (run : Progress) where
-  -- the last turn led to a breakpoint
-  pub ran_broken : (why : Stop) (left : ℕ) → last_break breaks state run ≡ Some why → ran breaks left state run ≡ stopped why state run
-  ran_broken why zero is =
-      ap (λ o. unless_broken o (stopped (option_map_or (λ p. stop.Limit) (next_of state run.order) (rest_of run.order)) state run) state run) is
-  ran_broken why (suc left) is =
-      ap (λ o. unless_broken o (turns_by (turn_of state) (after_turn state) (next_of state run.order) (λ p. ran breaks left (after_turn state p) (run_after p run)) state run) state run) is
-
-  -- or to none
-  module _ (none : last_break breaks state run ≡ None) where
-    ran_none : ran breaks zero state run ≡ stopped (option_map_or (λ p. stop.Limit) (next_of state run.order) (rest_of run.order)) state run
-    ran_none = ap (λ o. unless_broken o (stopped (option_map_or (λ p. stop.Limit) (next_of state run.order) (rest_of run.order)) state run) state run) none
-
-    pub ran_more : (left : ℕ) → ran breaks (suc left) state run
-        ≡ turns_by (turn_of state) (after_turn state) (next_of state run.order) (λ p. ran breaks left (after_turn state p) (run_after p run)) state run
-    ran_more left = ap (λ o. unless_broken o (turns_by (turn_of state) (after_turn state) (next_of state run.order) (λ p. ran breaks left (after_turn state p) (run_after p run)) state run) state run) none
-
-    ran_by_next : (next : Option ℕ) (why : Stop) (left : ℕ) → next_of state run.order ≡ next
-        → left ≡ run.turns - run.taken → run.taken ≤ run.turns → ending_by next run ≡ Some why → ran breaks left state run ≡ stopped why state run
-    ran_by_next None why zero is many below ends =
-        let same : rest_of run.order ≡ why = cc in
-        ran_none ∙ ap (λ n. stopped (option_map_or (λ p. stop.Limit) n (rest_of run.order)) state run) is ∙ ap (λ s. stopped s state run) same
-    ran_by_next None why (suc left) is many below ends =
-        let same : rest_of run.order ≡ why = cc in
-        ran_more left ∙ ap (λ n. turns_by (turn_of state) (after_turn state) n (λ p. ran breaks left (after_turn state p) (run_after p run)) state run) is ∙ ap (λ s. stopped s state run) same
-    ran_by_next (Some p) why left is many below ends =
-        let parts = limit_stop (run.taken == run.turns) why ends in
-        let none_left : left ≡ 0 = omega (arith, many, eqb-true run.taken run.turns parts.0) in
-        ap (λ n. ran breaks n state run) none_left ∙ ran_none
-        ∙ ap (λ n. stopped (option_map_or (λ q. stop.Limit) n (rest_of run.order)) state run) is ∙ ap (λ s. stopped s state run) parts.1
-
-  ended_by_break : (o : Option Stop) (why : Stop) → last_break breaks state run ≡ o → run.taken ≤ run.turns
-      → option_or o (ending_by (next_of state run.order) run) ≡ Some why → ran_from breaks state run ≡ stopped why state run
-  ended_by_break None why is below ends = ran_by_next is (next_of state run.order) why (run.turns - run.taken) refl refl below ends
-  ended_by_break (Some found) why is below ends =
-      let same : found ≡ why = cc in ran_broken found (run.turns - run.taken) is ∙ ap (λ s. stopped s state run) same
-
-  pub ran_ended : (why : Stop) → run.taken ≤ run.turns → ending breaks state run ≡ Some why → ran_from breaks state run ≡ stopped why state run
-  ran_ended why below ends = ended_by_break (last_break breaks state run) why refl below ends
-
-  -- what is left of a run of which the ending was found that holds
-  pub left_found : run.taken ≤ run.turns → left_by (ending breaks state run) breaks state run ≡ ran_from breaks state run
-  left_found below = by_stop (ending breaks state run) refl
-    where
-      by_stop : (found : Option Stop) → ending breaks state run ≡ found → left_by found breaks state run ≡ ran_from breaks state run
-      by_stop None is = refl
-      by_stop (Some why) is = sym (ran_ended why below is)
 
 -- Changes.
 
@@ -246,31 +115,48 @@ module _ (row : Row) (a b : State) (like : AreLikeStates a b) where
       by_refusal None = like_within (row_is_full row a) (row_is_full row b) like_full
       by_refusal (Some code) = record { answer_is = refl; after_is = like }
 
--- the row that each has
-module _ (row : Registry → Row) (a b : State) (like : AreLikeStates a b) where
-  pub like_change : AreLikeChanges (change_by (row (registry_of a)) a) (change_by (row (registry_of b)) b)
-  like_change =
-      subst (λ (r : Registry). AreLikeChanges (change_by (row (registry_of a)) a) (change_by (row r) b)) (registries_same a b like)
-      (like_row (row (registry_of a)) a b like)
+-- The row that each has: it is the same.
+abbrev pub IsSameRow : (State → Row) → Type 0
+IsSameRow row = (a b : State) → AreLikeStates a b → row a ≡ row b
 
-  pub like_wanting : may_want_memory (row (registry_of a)) a ≡ may_want_memory (row (registry_of b)) b
-  like_wanting = like_wants (row (registry_of a)) a b like ∙ ap (λ (r : Registry). may_want_memory (row r) b) (registries_same a b like)
+pub registered_same : (row : Registry → Row) → IsSameRow (registered row)
+registered_same row a b like = ap row (registries_same a b like)
+
+ledger_same : (tells : LedgerTold) → IsSameRow (ledger_row tells)
+ledger_same TellsCounts a b like = registered_same still_row a b like
+ledger_same (TellsDedup p address q other) a b like = dedup_same a b like p address q other
+ledger_same (TellsDedupAll p q) a b like = dedup_all_same a b like p q
+
+pub row_same : (file : List ℕ) (c : Command) → IsSameRow (row_in file c)
+row_same file c = by_told (told_by_ledger c)
+  where
+    by_told : (tells : Option LedgerTold) → IsSameRow (option_map_or (λ tells. ledger_row tells) tells (registered (change_row file c)))
+    by_told None = registered_same (change_row file c)
+    by_told (Some tells) = ledger_same tells
+
+module _ (row : State → Row) (same : IsSameRow row) where
+  pub like_change : (a b : State) → AreLikeStates a b → AreLikeChanges (change_by (row a) a) (change_by (row b) b)
+  like_change a b like = subst (λ (r : Row). AreLikeChanges (change_by (row a) a) (change_by r b)) (same a b like) (like_row (row a) a b like)
+
+  pub like_wanting : (a b : State) → AreLikeStates a b → may_want_memory (row a) a ≡ may_want_memory (row b) b
+  like_wanting a b like = like_wants (row a) a b like ∙ ap (λ (r : Row). may_want_memory r b) (same a b like)
 
 -- what a change gives is what it gives to each state
-module _ (row : Registry → Row) (old new : InSession) where
-  gives_each : (answer : Answer) → ComesTo (change_by (row (registry_of old.state)) old.state) answer new.state → (state : State)
-      → AreLikeStates old.state state → ComesTo (change_by (row (registry_of state)) state) answer new.state
+module _ (row : State → Row) (same : IsSameRow row) (old new : InSession) where
+  gives_each : (answer : Answer) → ComesTo (change_by (row old.state) old.state) answer new.state → (state : State)
+      → AreLikeStates old.state state → ComesTo (change_by (row state) state) answer new.state
   gives_each answer comes state stands =
-      let like = like_change row old.state state stands in
+      let like = like_change row same old.state state stands in
       record { answer_is = comes.answer_is ∙ like.answer_is; after_is = states_chain new.state _ _ comes.after_is like.after_is }
 
-  pub gives_as : (answer : Answer) → GivesChange (row (registry_of old.state)) old.state answer new.state → GivesAs row old answer new
-  gives_as Memory (wants, same) = λ state stands.
-      (sym (like_wanting row old.state state stands) ∙ wants, subst (λ (s : State). AreLikeStates s state) (sym same) stands)
+  pub gives_as : (answer : Answer) → GivesChange (row old.state) old.state answer new.state → GivesAs row old answer new
+  gives_as Memory (wants, kept) = λ state stands.
+      (sym (like_wanting row same old.state state stands) ∙ wants, subst (λ (s : State). AreLikeStates s state) (sym kept) stands)
   gives_as Done comes = gives_each Done comes
   gives_as (Loaded p pages entry) comes = gives_each (Loaded p pages entry) comes
   gives_as (Forked p q) comes = gives_each (Forked p q) comes
   gives_as (Saved p name space) comes = gives_each (Saved p name space) comes
+  gives_as (Shared pages) comes = gives_each (Shared pages) comes
   gives_as (Refused code) comes = gives_each (Refused code) comes
   gives_as (Full units limit) comes = gives_each (Full units limit) comes
 
@@ -281,10 +167,10 @@ pub record AreLikePerformed (x y : Performed State) : Type 0 where
   pub after : AreLikeStates x.after y.after
   pub wants : x.wants_memory ≡ y.wants_memory
 
-like_told : (row : Registry → Row) (a b : State) → AreLikeStates a b → AreLikePerformed (row_told rules (row (registry_of a)) a) (row_told rules (row (registry_of b)) b)
-like_told row a b like =
-    let change = like_change row a b like in
-    record { text = ap answer_text change.answer_is; after = change.after_is; wants = like_wanting row a b like }
+like_told : (row : State → Row) → IsSameRow row → (a b : State) → AreLikeStates a b → AreLikePerformed (row_told rules (row a) a) (row_told rules (row b) b)
+like_told row same a b like =
+    let change = like_change row same a b like in
+    record { text = ap answer_text change.answer_is; after = change.after_is; wants = like_wanting row same a b like }
 
 -- the turns that there are with some breakpoints
 abbrev takes_by : Breaks → Progress → State → Performed State
@@ -301,38 +187,39 @@ like_takes run a b like =
       wants = refl;
     })
 
-pub like_exec_turns : (turns : ℕ) (answer : Answer) (a b : State) → AreLikeStates a b → AreLikePerformed (exec_turns rules turns answer a) (exec_turns rules turns answer b)
-like_exec_turns turns (Loaded p pages entry) a b like = like_takes (begun_alone p turns) a b like
-like_exec_turns turns Done a b like = record { text = refl; after = like; wants = refl }
-like_exec_turns turns (Forked p q) a b like = record { text = refl; after = like; wants = refl }
-like_exec_turns turns (Saved p name space) a b like = record { text = refl; after = like; wants = refl }
-like_exec_turns turns (Refused code) a b like = record { text = refl; after = like; wants = refl }
-like_exec_turns turns (Full units limit) a b like = record { text = refl; after = like; wants = refl }
-like_exec_turns turns Memory a b like = record { text = refl; after = like; wants = refl }
+pub like_exec_turns : (calls : Bool) (turns : ℕ) (answer : Answer) (a b : State) → AreLikeStates a b → AreLikePerformed (exec_turns rules calls turns answer a) (exec_turns rules calls turns answer b)
+like_exec_turns calls turns (Loaded p pages entry) a b like = like_takes (begun_alone p calls turns) a b like
+like_exec_turns calls turns Done a b like = record { text = refl; after = like; wants = refl }
+like_exec_turns calls turns (Forked p q) a b like = record { text = refl; after = like; wants = refl }
+like_exec_turns calls turns (Saved p name space) a b like = record { text = refl; after = like; wants = refl }
+like_exec_turns calls turns (Shared pages) a b like = record { text = refl; after = like; wants = refl }
+like_exec_turns calls turns (Refused code) a b like = record { text = refl; after = like; wants = refl }
+like_exec_turns calls turns (Full units limit) a b like = record { text = refl; after = like; wants = refl }
+like_exec_turns calls turns Memory a b like = record { text = refl; after = like; wants = refl }
 
-like_exec : (file : List ℕ) (turns : ℕ) (a b : State) → AreLikeStates a b → AreLikePerformed (exec_done rules file turns a) (exec_done rules file turns b)
-like_exec file turns a b like =
+like_exec : (calls : Bool) (file : List ℕ) (turns : ℕ) (a b : State) → AreLikeStates a b → AreLikePerformed (exec_done rules calls file turns a) (exec_done rules calls file turns b)
+like_exec calls file turns a b like =
     let x = change_by (load_row file (registry_of a)) a in
     let y = change_by (load_row file (registry_of b)) b in
-    let first = like_change (load_row file) a b like in
-    let next = like_exec_turns turns x.answer x.after y.after first.after_is in
+    let first = like_change (registered (load_row file)) (registered_same (load_row file)) a b like in
+    let next = like_exec_turns calls turns x.answer x.after y.after first.after_is in
     record {
-      text = ap (λ t. answer_text t ++ (exec_turns rules turns x.answer x.after).text) first.answer_is
-          ∙ ap (λ t. answer_text y.answer ++ t) next.text ∙ ap (λ t. answer_text y.answer ++ (exec_turns rules turns t y.after).text) first.answer_is;
-      after = subst (λ t. AreLikeStates (exec_turns rules turns x.answer x.after).after (exec_turns rules turns t y.after).after) first.answer_is next.after;
+      text = ap (λ t. answer_text t ++ (exec_turns rules calls turns x.answer x.after).text) first.answer_is
+          ∙ ap (λ t. answer_text y.answer ++ t) next.text ∙ ap (λ t. answer_text y.answer ++ (exec_turns rules calls turns t y.after).text) first.answer_is;
+      after = subst (λ t. AreLikeStates (exec_turns rules calls turns x.answer x.after).after (exec_turns rules calls turns t y.after).after) first.answer_is next.after;
       wants = refl;
     }
 
-like_step : (p turns : ℕ) (a b : State) → AreLikeStates a b → AreLikePerformed (step_done rules p turns a) (step_done rules p turns b)
-like_step p turns a b like =
-    subst (λ (o : Option Process). AreLikePerformed (step_done rules p turns a) (steps rules p turns o b)) (ap (λ (ps : Processes). get ps p) like.wholes.processes) (by_found (get a.wholes.processes p))
+like_step : (calls : Bool) (p turns : ℕ) (a b : State) → AreLikeStates a b → AreLikePerformed (step_done rules calls p turns a) (step_done rules calls p turns b)
+like_step calls p turns a b like =
+    subst (λ (o : Option Process). AreLikePerformed (step_done rules calls p turns a) (steps rules calls p turns o b)) (ap (λ (ps : Processes). get ps p) like.wholes.processes) (by_found (get a.wholes.processes p))
   where
-    by_running : (r : Bool) → AreLikePerformed (cond r (takes_turns (begun_alone p turns) a) (told false (record { answer = Refused Ended; after = a })))
-        (cond r (takes_turns (begun_alone p turns) b) (told false (record { answer = Refused Ended; after = b })))
-    by_running true = like_takes (begun_alone p turns) a b like
+    by_running : (r : Bool) → AreLikePerformed (cond r (takes_turns (begun_alone p calls turns) a) (told false (record { answer = Refused Ended; after = a })))
+        (cond r (takes_turns (begun_alone p calls turns) b) (told false (record { answer = Refused Ended; after = b })))
+    by_running true = like_takes (begun_alone p calls turns) a b like
     by_running false = record { text = refl; after = like; wants = refl }
 
-    by_found : (o : Option Process) → AreLikePerformed (steps rules p turns o a) (steps rules p turns o b)
+    by_found : (o : Option Process) → AreLikePerformed (steps rules calls p turns o a) (steps rules calls p turns o b)
     by_found None = record { text = refl; after = like; wants = refl }
     by_found (Some process) = by_running (runs process.state)
 
@@ -381,20 +268,29 @@ unfolding stats_text
 stats_same a b like = ap counts_text (counts_same a.wholes b.wholes like.wholes)
 
 like_changed : (file : List ℕ) (c : Command) (a b : State) → AreLikeStates a b → AreLikePerformed (change_told rules file c a) (change_told rules file c b)
-like_changed file c a b like = like_told (change_row file c) a b like
+like_changed file c a b like = like_told (registered (change_row file c)) (registered_same (change_row file c)) a b like
+
+-- what is told by the ledger
+like_ledger_done : (tells : LedgerTold) (a b : State) → AreLikeStates a b → AreLikePerformed (ledger_done tells a) (ledger_done tells b)
+like_ledger_done TellsCounts a b like = record { text = stats_same a b like; after = like; wants = refl }
+like_ledger_done (TellsDedup p address q other) a b like =
+    like_told (dedup_row p address q other) (ledger_same (TellsDedup p address q other)) a b like
+like_ledger_done (TellsDedupAll p q) a b like = like_told (dedup_all_row p q) (ledger_same (TellsDedupAll p q)) a b like
 
 pub like_performed : (modes : Modes) (file : List ℕ) (c : Command) (a b : State) → AreLikeStates a b → AreLikePerformed (performed modes file c a) (performed modes file c b)
 like_performed modes file command a b like = by_case command (goes_by rules rules modes file command)
   where
     by_case : (c : Command) → GoesBy rules rules modes file c → AreLikePerformed (performed modes file c a) (performed modes file c b)
-    by_case _ (ByExec name turns) = like_exec file turns a b like
-    by_case _ (ByRun turns) = like_takes (by_turns modes.quantum turns) a b like
-    by_case _ (ByStep p turns) = like_step p turns a b like
+    by_case _ (ByExec name turns) = like_exec modes.calls file turns a b like
+    by_case _ (ByRun turns) = like_takes (by_turns modes.quantum modes.calls turns) a b like
+    by_case _ (ByStep p turns) = like_step modes.calls p turns a b like
     by_case _ ByList = record { text = list_same a b like; after = like; wants = refl }
-    by_case _ ByStats = record { text = stats_same a b like; after = like; wants = refl }
     by_case _ (ByRegs p) = like_regs p a b like
     by_case _ (ByDump p address count) = like_prints p address count (λ memory. dump_text memory address count) a b like
     by_case _ (ByDisasm p address words) = like_prints p address (WORD_BYTES * words) (λ memory. disasm_text modes.extension memory address words) a b like
-    by_case _ (ByChange c here there counts) =
+    by_case _ (ByLedger c tells here there is) =
+        subst (λ x. AreLikePerformed x (performed modes file c b)) (sym (here a))
+        (subst (λ y. AreLikePerformed (ledger_done tells a) y) (sym (here b)) (like_ledger_done tells a b like))
+    by_case _ (ByChange c here there is) =
         subst (λ x. AreLikePerformed x (performed modes file c b)) (sym (here a))
         (subst (λ y. AreLikePerformed (change_told rules file c a) y) (sym (here b)) (like_changed file c a b like))

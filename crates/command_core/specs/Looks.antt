@@ -1,4 +1,4 @@
-use Rattle.std.specs.Prelude.{◌≡◌, ℕ, ◌+◌, nat_le, List, [], ◌∷◌, if◌then◌else◌, slice_get, Option, Some, None, Result, Ok, Err}
+use Rattle.std.specs.Prelude.{◌≡◌, ℕ, ◌+◌, nat_le, Bool, List, [], ◌∷◌, if◌then◌else◌, slice_get, Option, Some, None, Result, Ok, Err}
 use Rattle.std.specs.List.{filter}
 use Rattle.std.specs.FinMap.{entries, get, len}
 use Rattle.ledger.specs.Units.{own_lines, units}
@@ -10,7 +10,7 @@ use Rattle.command_core.specs.declared.session.CheckpointView.{CheckpointView}
 use Rattle.command_core.specs.declared.session.Counts.{Counts}
 use Rattle.command_core.specs.declared.session.ProcessView.{ProcessView}
 use Rattle.command_core.specs.State.{Checkpoint}
-use Rattle.command_core.specs.Turns.{InRun, begun_alone, run_found}
+use Rattle.process_runs.specs.Turns.{InRun, begun_alone, run_found}
 use Rattle.breakpoints.specs.Breakpoints.{Breaks}
 use Rattle.ovl_io.specs.Memory.{bytes_at, first_denied}
 
@@ -50,12 +50,12 @@ counts_of all = record {
 }
 
 -- the turns of one process are begun: refused where it isn't there, or has ended
-abbrev pub begun : Breaks → Wholes → ℕ → ℕ → Option Process → Result InRun Code
-begun breaks state p turns None = Err NoProcess
-begun breaks state p turns (Some process) = if runs process.state then Ok (run_found breaks state (begun_alone p turns)) else Err Ended
+abbrev pub begun : Breaks → Wholes → Bool → ℕ → ℕ → Option Process → Result InRun Code
+begun breaks state calls p turns None = Err NoProcess
+begun breaks state calls p turns (Some process) = if runs process.state then Ok (run_found breaks state (begun_alone p calls turns)) else Err Ended
 
-abbrev pub BeginsStep : Breaks → Wholes → ℕ → ℕ → Result InRun Code → Type 0
-BeginsStep breaks state p turns result = result ≡ begun breaks state p turns (get state.processes p)
+abbrev pub BeginsStep : Breaks → Wholes → Bool → ℕ → ℕ → Result InRun Code → Type 0
+BeginsStep breaks state calls p turns result = result ≡ begun breaks state calls p turns (get state.processes p)
 
 -- n bytes of a process from an address on are looked at, whatever the permissions: refused at the first whose page isn't there
 abbrev pub look_denied : Option ℕ → Result (Unit {0}) Code

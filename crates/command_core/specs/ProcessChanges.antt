@@ -23,7 +23,7 @@ use Rattle.command_core.specs.declared.process_changes.ProcessChange.TheVariants
 use Rattle.command_core.specs.State.{Registry, process_of, whole_of}
 use Rattle.command_core.specs.Rows.{Row, TakesLast, plain_row, refused_if, refused_row}
 use Rattle.command_core.specs.Giving.{MachineGives}
-use Rattle.command_core.specs.Refusals.{map_refusals, unmap_refusals, by_ended, by_speculating, has_page}
+use Rattle.command_core.specs.Refusals.{map_refusals, unmap_refusals, by_ended, by_speculating, by_unmapped}
 
 -- What speculation, promotion, pages that are mapped or given up, and a register that is set make of a process that is there.
 
@@ -71,7 +71,7 @@ process_row p Commit process registry =
 process_row p Discard process registry =
     option_map_or (λ whole. plain_row false (Some p) [] (event.Discard p) (leaves p (after_discard whole) registry)) process.kept (refused_row NotSpeculating registry)
 process_row p (Promote address) process registry =
-    plain_row true (Some p) (by_speculating (is_speculating process) ∷ refused_if (not (has_page process.memory (address / PAGE_BYTES))) (Unmapped address) ∷ []) (event.SettlePage p (address / PAGE_BYTES)) registry
+    plain_row true (Some p) (by_speculating (is_speculating process) ∷ by_unmapped process.memory address ∷ []) (event.SettlePage p (address / PAGE_BYTES)) registry
 process_row p PromoteAll process registry = plain_row true (Some p) (by_speculating (is_speculating process) ∷ []) (event.Settle p) registry
 process_row p (Map address n perms) process registry =
     record (plain_row false (Some p) (map_refusals address n (is_speculating process) process.memory) (event.Map p (address / PAGE_BYTES) n)

@@ -4,12 +4,16 @@ use Rattle.std.specs.FinMap.{get, len}
 use Rattle.sizes.specs.declared.TheConstants.{ADDRESS_END, MOST_SPACE_PAGES, PAGE_BYTES}
 use Rattle.ovl_io.specs.Memory.{Memory}
 use Rattle.ovl_io.specs.declared.process_state.ProcessState.{ProcessState}
-use Rattle.machine_core.specs.Process.{runs}
+use Rattle.machine_core.specs.Process.{Process, runs}
 use Rattle.report_text.specs.declared.answer.Code.{Code}
-use Rattle.report_text.specs.declared.answer.Code.TheVariants.{Ended, Speculating, Unmapped, Mapped, NumbersUsed, Outside}
+use Rattle.report_text.specs.declared.answer.Code.TheVariants.{NoProcess, Ended, Speculating, Unmapped, Mapped, NumbersUsed, Outside}
 use Rattle.command_core.specs.Rows.{refused_if}
 
 -- Why changes are refused, a line each.
+
+-- no process has the number
+abbrev pub by_absent : Option Process → Option Code
+by_absent found = refused_if (not (is_some found)) NoProcess
 
 -- the process isn't running
 abbrev pub by_ended : ProcessState → Option Code
@@ -33,6 +37,10 @@ lowest holds from (suc n) = if holds from then Some from else lowest holds (from
 
 abbrev pub has_page : Memory → ℕ → Bool
 has_page memory page = is_some (get memory page)
+
+-- the page of an address isn't there; the address as it was given
+abbrev pub by_unmapped : Memory → ℕ → Option Code
+by_unmapped memory address = refused_if (not (has_page memory (address / PAGE_BYTES))) (Unmapped address)
 
 -- Why pages aren't mapped, and why they aren't given up: at last, the lowest of the n pages from an address on that is there already, or
 -- that isn't there.

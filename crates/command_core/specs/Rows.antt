@@ -10,7 +10,7 @@ use Rattle.report_text.specs.declared.answer.Answer.{Answer}
 use Rattle.report_text.specs.declared.answer.Answer.TheVariants.{Done, Refused, Full}
 use Rattle.report_text.specs.declared.answer.Code.{Code}
 pub use Rattle.elf_loader.specs.Accepted.{first_refusal, refused_if}
-use Rattle.command_core.specs.State.{Registry, State, with_registry}
+use Rattle.command_core.specs.State.{Registry, State, registry_of, with_registry}
 
 -- Changes of the copying machine, as rows, and the one rule of what a row comes to.
 
@@ -50,6 +50,10 @@ still_row = plain_row false None [] Other
 
 abbrev pub refused_row : Code → Registry → Row
 refused_row code = plain_row false None (Some code ∷ []) Other
+
+-- a row that goes by what is registered alone, in a state
+abbrev pub registered : (Registry → Row) → State → Row
+registered row state = row (registry_of state)
 
 -- the ledger after an event, how many units that needs, and whether there aren't as many
 unfoldable pub ledger_by : Event → Ledger → Ledger

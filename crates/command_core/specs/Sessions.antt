@@ -13,17 +13,10 @@ use Rattle.translation_cache.specs.Absent.{HasNone}
 use Rattle.space_maps.specs.Spaces.{space_in}
 use Rattle.machine_core.specs.Machine.{Machine, has_saved, has_space, is_marked, lists_of, spaces_of, wholes}
 use Rattle.command_core.specs.declared.modes.Modes.{Modes}
+use Rattle.process_runs.specs.Places.{KeepsFree, NoPageAwaits, NoneGoes, OwnSpaces}
 use Rattle.command_core.specs.State.{Checkpoint, State, extended, fresh}
 
 -- What a session keeps, and the state that it shows.
-
--- each process has its memory
-abbrev pub OwnSpaces : Machine → Type 0
-OwnSpaces machine = (p : ℕ) → is_some (get machine.processes p) ≡ true → has_space machine p ≡ true
-
--- no page awaits being shared
-abbrev pub NoPageAwaits : Machine → Type 0
-NoPageAwaits machine = (p : ℕ) → (space_in (spaces_of machine) p).awaiting ≡ empty
 
 -- a space that is there and has no process, as that of a checkpoint
 abbrev pub HasNoProcess : Machine → ℕ → Type 0
@@ -46,15 +39,6 @@ pub record IsSession (machine : Machine) (spaces : List ℕ) (numbers : List (Li
   pub free : AllByRecursion (HasNoProcess machine) spaces
   pub once : IsDistinct nat_eq spaces
   pub unseen : NoneSeen machine
-
--- each space without a process is as it was, and still nothing of it was translated
-pub record KeepsFree (old new : Machine) : Type 0 where
-  pub spaces : (q : ℕ) → get old.processes q ≡ None → space_in (spaces_of new) q ≡ space_in (spaces_of old) q
-  pub unseen : (q : ℕ) → get old.processes q ≡ None → HasNone q (lists_of old) → HasNone q (lists_of new)
-
--- no process goes
-abbrev pub NoneGoes : Machine → Machine → Type 0
-NoneGoes old new = (q : ℕ) → get new.processes q ≡ None → get old.processes q ≡ None
 
 -- what a machine is a session of, another one is too, its checkpoints are as they were, and so are the numbers of its processes
 pub record KeepsSession (old new : Machine) : Type 0 where
@@ -100,6 +84,10 @@ fresh_session modes free_blocks = record { state = fresh modes; modes = modes; b
 abbrev pub extended_session : Bool → InSession → InSession
 extended_session extension session =
     record session { state = extended extension session.state; modes = record (session.modes) { extension = extension } }
+
+-- with processes that may speculate by themselves, or may not; all else stays
+abbrev pub called_session : Bool → InSession → InSession
+called_session calls session = record session { modes = record (session.modes) { calls = calls } }
 
 -- all but the processes is as it was
 pub record KeepsRest (old new : InSession) : Type 0 where

@@ -1,30 +1,15 @@
 use Rattle.std.specs.Prelude.{ℕ, ◌-◌, Bool, false, List, [], ◌∷◌}
 use Rattle.std.specs.Option.{is_some, option_map_or}
-use Rattle.std.specs.FinMap.{empty, get, insert}
-use Rattle.breakpoints.specs.Breakpoints.{Breaks}
-use Rattle.ovl_io.specs.declared.turn.Turn.{Turn}
-use Rattle.ovl_io.specs.declared.turn.Turn.TheVariants.{Stepped}
+use Rattle.std.specs.FinMap.{empty}
 use Rattle.machine_core.specs.Machine.{Processes}
-use Rattle.machine_core.specs.Turns.{process_after, step_of}
 use Rattle.command_core.specs.State.{Registry}
 use Rattle.command_core.specs.Rows.{Changed, Row, first_refusal, refuses, wants_by}
-use Rattle.command_core.specs.Turns.{Progress, Ran, TurnRules, last_reached, next_among, ran_by, ran_text}
+use Rattle.process_runs.specs.Turns.{Progress, Ran, ran_by, ran_text}
+use Rattle.process_runs.specs.Unbounded.{unbounded_turns}
 use Rattle.command_core.specs.Commands.{Performed, Rules, text_printed}
 
 -- The unbounded machine: it copies the whole memory at each fork, checkpoint and speculation start, and there is always room. It has
 -- no ledger, no frames and no limit, and nothing is ever full. It has extension M or not.
-
--- Turns: each is the step of its process.
-abbrev pub step_among : Bool → Processes → ℕ → Turn
-step_among extension processes p = option_map_or (λ process. (step_of extension p process).turn) (get processes p) Stepped
-
-abbrev pub after_step_of : Bool → Processes → ℕ → Processes
-after_step_of extension processes p =
-    option_map_or (λ process. insert processes p (process_after extension p process)) (get processes p) processes
-
-abbrev pub unbounded_turns : Bool → Breaks → TurnRules Processes
-unbounded_turns extension breaks =
-    record { next = next_among; broken = last_reached breaks; turn = step_among extension; after = after_step_of extension }
 
 -- Its state: what is registered; whether it has extension M; and the lines of the commands that are told by the ledger, one after the
 -- other.
@@ -39,7 +24,7 @@ with_processes processes state = record state { registry = record (state.registr
 -- all turns that are left of a run
 abbrev pub unbounded_ran : Unbounded → Progress → Ran Processes
 unbounded_ran state run =
-    ran_by (unbounded_turns state.extension state.registry.breakpoints) (run.turns - run.taken) state.registry.processes run
+    ran_by (unbounded_turns run.calls state.extension state.registry.breakpoints) (run.turns - run.taken) state.registry.processes run
 
 abbrev pub takes_unbounded : Progress → Unbounded → Performed Unbounded
 takes_unbounded run state = record {

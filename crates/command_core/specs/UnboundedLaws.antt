@@ -14,7 +14,7 @@ use Rattle.machine_core.specs.Turns.{after_turn, guest_after, guest_of, guest_re
 use Rattle.machine_core.specs.Ample.{is_full_turn, step_fits}
 use Rattle.machine_core.specs.Laws.{after_extension}
 use Rattle.report_text.specs.declared.answer.Answer.{Answer}
-use Rattle.report_text.specs.declared.answer.Answer.TheVariants.{Done, Loaded, Forked, Saved, Refused, Full, Memory}
+use Rattle.report_text.specs.declared.answer.Answer.TheVariants.{Done, Loaded, Forked, Saved, Shared, Refused, Full, Memory}
 use Rattle.report_text.specs.declared.answer.Code.{Code}
 use Rattle.report_text.specs.declared.answer.Code.TheVariants.{Ended, NoProcess, Unmapped}
 use Rattle.report_text.specs.declared.answer.Stop.{Stop}
@@ -26,158 +26,15 @@ use Rattle.command_core.specs.declared.modes.Modes.{Modes}
 use Rattle.command_core.specs.declared.TheConstants.{WORD_BYTES}
 use Rattle.command_core.specs.State.{Registry, State, registry_of}
 use Rattle.command_core.specs.Rows.{Changed, MemoryTaken, Row, TakesFirst, TakesLast, TakesNone, accepts, change_by, event_needs, falls_short, first_refusal, row_is_full as is_row_full, may_want_memory, refuses, wants_by}
-use Rattle.command_core.specs.Changes.{change_row, load_row}
-use Rattle.command_core.specs.Turns.{Progress, Ran, begun_alone, by_turns, event_then, first_event, last_break, next_of, ran, ran_by, ran_from, ran_text, rest_of, run_after, stopped, turns_by, unless_broken}
-use Rattle.command_core.specs.Commands.{Performed, change_told, checkpoint_text, checkpoints_text, disasm_text, dump_from, dump_text, exec_done, exec_turns, list_head, list_text, performed, performed_by, text_printed, prints_of, prints_read, process_text, processes_text, registers_from, regs_head, regs_of, regs_text, row_told, rules, stats_text, steps, takes_turns, told}
-use Rattle.command_core.specs.CommandCases.{GoesBy, ByExec, ByRun, ByStep, ByList, ByStats, ByRegs, ByDump, ByDisasm, ByChange, goes_by, ledger_done}
-use Rattle.command_core.specs.Unbounded.{Unbounded, change_unbounded, does_row, after_step_of, step_among, takes_unbounded, unbounded, unbounded_turns, wants_unbounded}
+use Rattle.command_core.specs.Changes.{LedgerTold, TellsCounts, TellsDedup, TellsDedupAll, change_row, ledger_row, load_row, told_by_ledger}
+use Rattle.process_runs.specs.Turns.{Progress, Ran, begun_alone, by_turns, ran_from, ran_text}
+use Rattle.process_runs.specs.UnboundedLaws.{same_ran, same_text}
+use Rattle.command_core.specs.Commands.{Performed, change_told, checkpoint_text, checkpoints_text, disasm_text, dump_from, dump_text, exec_done, exec_turns, ledger_done, list_head, list_text, performed, performed_by, text_printed, prints_of, prints_read, process_text, processes_text, registers_from, regs_head, regs_of, regs_text, row_told, rules, stats_text, steps, takes_turns, told}
+use Rattle.command_core.specs.Deduplication.{dedup_all_row, dedup_row}
+use Rattle.command_core.specs.CommandCases.{GoesBy, ByExec, ByRun, ByStep, ByList, ByRegs, ByDump, ByDisasm, ByLedger, ByChange, goes_by}
+use Rattle.command_core.specs.Unbounded.{Unbounded, change_unbounded, does_row, next_told, takes_unbounded, unbounded, wants_unbounded}
 
 -- As long as no line says `full`, the copying machine says and does what the unbounded one does.
-
--- A turn: it is full, or it is the step.
-pub data ComesOut (state : Wholes) (p : ℕ) : Type 0 where
-  IsFullTurn : (units limit : ℕ) → turn_of state p ≡ turn.Full units limit → ComesOut state p
-  IsStep : turn_of state p ≡ step_among state.extension state.processes p → is_full_turn (step_among state.extension state.processes p) ≡ false
-      → (after_turn state p).processes ≡ after_step_of state.extension state.processes p → ComesOut state p
-
--- the same of a process that may be there, where it is known whether there aren't units enough
-abbrev turn_found : Wholes → ℕ → Option Process → Turn
-turn_found state p o = option_map_or (turn_in p) (option_map (guest_of state) o) turn.Stepped
-
-abbrev step_found : Bool → ℕ → Option Process → Turn
-step_found extension p o = option_map_or (λ process. (step_of extension p process).turn) o turn.Stepped
-
-abbrev after_found : Wholes → ℕ → Option Process → Wholes
-after_found state p o = option_map_or (λ guest. with_guest state p (guest_after p guest)) (option_map (guest_of state) o) state
-
-abbrev step_left : Wholes → ℕ → Option Process → Processes
-step_left state p o = option_map_or (λ process. insert state.processes p (process_after state.extension p process)) o state.processes
-
-data Found (state : Wholes) (p : ℕ) (o : Option Process) : Type 0 where
-  FullThere : (units limit : ℕ) → turn_found state p o ≡ turn.Full units limit → Found state p o
-  StepThere : turn_found state p o ≡ step_found state.extension p o → is_full_turn (step_found state.extension p o) ≡ false
-      → (after_found state p o).processes ≡ step_left state p o → Found state p o
-
-module _ (state : Wholes) (p : ℕ) where
-  by_full : (process : Process) (full : Bool) → is_full p (guest_of state process) ≡ full → Found state p (Some process)
-  by_full process true is =
-      FullThere (units_needed p (guest_of state process)) (unit_limit state.frames)
-      (ap (λ b. cond b (turn.Full (units_needed p (guest_of state process)) (unit_limit state.frames)) (step_of state.extension p process).turn) is)
-  by_full process false is =
-      let guest = guest_of state process in
-      StepThere
-      (ap (λ b. cond b (turn.Full (units_needed p guest) (unit_limit state.frames)) (step_of state.extension p process).turn) is)
-      (step_fits state.extension p process)
-      (ap (λ b. (with_guest state p (cond b (guest_refused p guest) (guest_stepped p guest))).processes) is)
-
-  by_process : (o : Option Process) → Found state p o
-  by_process None = StepThere refl refl refl
-  by_process (Some process) = by_full process (is_full p (guest_of state process)) refl
-
-  out : Found state p (get state.processes p) → ComesOut state p
-  out (FullThere units limit is) = IsFullTurn units limit is
-  out (StepThere is fits after) = IsStep is fits after
-
-  pub comes_out : ComesOut state p
-  comes_out = out (by_process (get state.processes p))
-
--- Turns, one after the other.
-pub record RanSame (extension : Bool) (r : Ran Wholes) (s : Ran Processes) : Type 0 where
-  pub events : r.events ≡ s.events
-  pub stop_is : r.stop ≡ s.stop
-  pub taken : r.taken ≡ s.taken
-  pub after : r.after.processes ≡ s.after
-  pub extension_is : r.after.extension ≡ extension
-
-abbrev SaysNoFull : Ran Wholes → List ℕ → Type 0
-SaysNoFull r behind = has_full_line (ran_text r ++ behind) ≡ false
-
-same_stopped : (why : Stop) (state : Wholes) (run : Progress) → RanSame state.extension (stopped why state run) (stopped why state.processes run)
-same_stopped why state run = record { events = refl; stop_is = refl; taken = refl; after = refl; extension_is = refl }
-
-same_first : (extension : Bool) (p : ℕ) (came : Turn) (r : Ran Wholes) (s : Ran Processes) → RanSame extension r s → RanSame extension (first_event p came r) (first_event p came s)
-same_first extension p came r s same = record {
-  events = ap (λ (es : List (ℕ × Turn)). (p, came) ∷ es) same.events;
-  stop_is = same.stop_is;
-  taken = same.taken;
-  after = same.after;
-  extension_is = same.extension_is;
-}
-
--- the text of an event, and then that of the others
-text_first : (p : ℕ) (came : Turn) (r : Ran Wholes) (behind : List ℕ) → ran_text (first_event p came r) ++ behind ≡ turn_text p came ++ (ran_text r ++ behind)
-text_first p came r behind =
-    ap (λ bs. bs ++ behind) (append_assoc (turn_text p came) (flat_map (λ event. turn_text event.0 event.1) r.events) (stop_text r.taken r.stop))
-    ∙ append_assoc (turn_text p came) (ran_text r) behind
-
-behind_first : (p : ℕ) (came : Turn) (r : Ran Wholes) (behind : List ℕ) → SaysNoFull (first_event p came r) behind → SaysNoFull r behind
-behind_first p came r behind none =
-    behind_lines (turn_text p came) (ran_text r ++ behind) (turn_lines p came) (sym (ap has_full_line (text_first p came r behind)) ∙ none)
-
--- an event that is full has its line
-full_shows : (p units limit : ℕ) (others : Ran Wholes) (state : Wholes) (run : Progress) (behind : List ℕ)
-    → SaysNoFull (event_then p (turn.Full units limit) others state run) behind → ⊥
-full_shows p units limit others state run behind none =
-    let all = stopped stop.Full state run in
-    let shown : has_full_line (ran_text (first_event p (turn.Full units limit) all) ++ behind) ≡ true =
-    ap has_full_line (text_first p (turn.Full units limit) all behind) ∙ turn_shows p units limit (ran_text all ++ behind) in
-    let both : true ≡ false = sym shown ∙ none in
-    cc
-
--- one that isn't is the first of them
-same_then : (extension : Bool) (p : ℕ) (came : Turn) (r : Ran Wholes) (s : Ran Processes) (state : Wholes) (processes : Processes) (run : Progress) (behind : List ℕ)
-    → is_full_turn came ≡ false → (SaysNoFull r behind → RanSame extension r s)
-    → SaysNoFull (event_then p came r state run) behind → RanSame extension (event_then p came r state run) (event_then p came s processes run)
-same_then extension p turn.Stepped r s state processes run behind fits rest none =
-    same_first extension p turn.Stepped r s (rest (behind_first p turn.Stepped r behind none))
-same_then extension p (turn.Wrote written) r s state processes run behind fits rest none =
-    same_first extension p (turn.Wrote written) r s (rest (behind_first p (turn.Wrote written) r behind none))
-same_then extension p (turn.Exited code) r s state processes run behind fits rest none =
-    same_first extension p (turn.Exited code) r s (rest (behind_first p (turn.Exited code) r behind none))
-same_then extension p (turn.Faulted kind at) r s state processes run behind fits rest none =
-    same_first extension p (turn.Faulted kind at) r s (rest (behind_first p (turn.Faulted kind at) r behind none))
-same_then extension p (turn.Full units limit) r s state processes run behind fits rest none = cc
-
-module _ (breaks : Breaks) (behind : List ℕ) where
-  -- whose turn comes out so
-  same_turn : (p : ℕ) (state : Wholes) (run : Progress) (others : Ran Wholes) (each : Processes → Ran Processes) → ComesOut state p
-      → (SaysNoFull others behind → RanSame state.extension others (each (after_turn state p).processes))
-      → SaysNoFull (event_then p (turn_of state p) others (after_turn state p) run) behind
-      → RanSame state.extension (event_then p (turn_of state p) others (after_turn state p) run) (event_then p (step_among state.extension state.processes p) (each (after_step_of state.extension state.processes p)) (after_step_of state.extension state.processes p) run)
-  same_turn p state run others each (IsFullTurn units limit is) rest none =
-      absurd (full_shows p units limit others (after_turn state p) run behind (subst (λ t. SaysNoFull (event_then p t others (after_turn state p) run) behind) is none))
-  same_turn p state run others each (IsStep is fits after) rest none =
-      let there = subst (λ t. SaysNoFull (event_then p t others (after_turn state p) run) behind) is none in
-      subst (λ t. RanSame state.extension (event_then p t others (after_turn state p) run) (event_then p (step_among state.extension state.processes p) (each (after_step_of state.extension state.processes p)) (after_step_of state.extension state.processes p) run)) (sym is)
-      (same_then state.extension p (step_among state.extension state.processes p) others (each (after_step_of state.extension state.processes p)) (after_turn state p) (after_step_of state.extension state.processes p) run behind fits
-      (λ quiet. subst (λ ps. RanSame state.extension others (each ps)) after (rest quiet)) there)
-
-  same_next : (next : Option ℕ) (state : Wholes) (run : Progress) (r : ℕ → Ran Wholes) (s : ℕ → Processes → Ran Processes)
-      → ((p : ℕ) → SaysNoFull (r p) behind → RanSame state.extension (r p) (s p (after_turn state p).processes))
-      → SaysNoFull (turns_by (turn_of state) (after_turn state) next r state run) behind
-      → RanSame state.extension (turns_by (turn_of state) (after_turn state) next r state run) (turns_by (step_among state.extension state.processes) (after_step_of state.extension state.processes) next (λ p. s p (after_step_of state.extension state.processes p)) state.processes run)
-  same_next None state run r s rest none = same_stopped (rest_of run.order) state run
-  same_next (Some p) state run r s rest none = same_turn p state run (r p) (s p) (comes_out state p) (rest p) none
-
-  same_unless : (broken : Option Stop) (state : Wholes) (run : Progress) (r : Ran Wholes) (s : Ran Processes) → (SaysNoFull r behind → RanSame state.extension r s)
-      → SaysNoFull (unless_broken broken r state run) behind → RanSame state.extension (unless_broken broken r state run) (unless_broken broken s state.processes run)
-  same_unless None state run r s rest none = rest none
-  same_unless (Some why) state run r s rest none = same_stopped why state run
-
-  pub same_ran : (left : ℕ) (state : Wholes) (run : Progress) → SaysNoFull (ran breaks left state run) behind
-      → RanSame state.extension (ran breaks left state run) (ran_by (unbounded_turns state.extension breaks) left state.processes run)
-  same_ran zero state run none =
-      let why = option_map_or (λ p. stop.Limit) (next_of state run.order) (rest_of run.order) in
-      same_unless (last_break breaks state run) state run (stopped why state run) (stopped why state.processes run) (λ quiet. same_stopped why state run) none
-  same_ran (suc left) state run none =
-      let next = next_of state run.order in
-      same_unless (last_break breaks state run) state run
-      (turns_by (turn_of state) (after_turn state) next (λ p. ran breaks left (after_turn state p) (run_after p run)) state run)
-      (turns_by (step_among state.extension state.processes) (after_step_of state.extension state.processes) next (λ p. ran_by (unbounded_turns state.extension breaks) left (after_step_of state.extension state.processes p) (run_after p run)) state.processes run)
-      (same_next next state run (λ p. ran breaks left (after_turn state p) (run_after p run)) (λ p ps. ran_by (unbounded_turns state.extension breaks) left ps (run_after p run))
-      (λ p quiet. subst (λ x. RanSame x (ran breaks left (after_turn state p) (run_after p run)) (ran_by (unbounded_turns x breaks) left (after_turn state p).processes (run_after p run)))
-      (after_extension state p) (same_ran left (after_turn state p) (run_after p run) quiet)))
-      none
 
 -- What a command comes to.
 
@@ -192,12 +49,6 @@ pub record PerformedSame (counts : List (List ℕ)) (x : Performed State) (y : P
 
 abbrev ShowsNoFull : Performed State → List ℕ → Type 0
 ShowsNoFull x behind = has_full_line (x.text ++ behind) ≡ false
-
-same_text : (extension : Bool) (r : Ran Wholes) (s : Ran Processes) → RanSame extension r s → ran_text r ≡ ran_text s
-same_text extension r s same =
-    ap (λ (es : List (ℕ × Turn)). flat_map (λ event. turn_text event.0 event.1) es ++ stop_text r.taken r.stop) same.events
-    ∙ ap (λ n. flat_map (λ event. turn_text event.0 event.1) s.events ++ stop_text n r.stop) same.taken
-    ∙ ap (λ x. flat_map (λ event. turn_text event.0 event.1) s.events ++ stop_text s.taken x) same.stop_is
 
 not_wanted : (memory : MemoryTaken) (full : Bool) → wants_by memory true full ≡ wants_by memory true false
 not_wanted TakesNone full = refl
@@ -264,26 +115,27 @@ module _ (counts : List (List ℕ)) (behind : List ℕ) where
   same_refused : (code : Code) (state : State) → PerformedSame counts (told false (refuses code state)) (told false (refuses code (unbounded_of counts state)))
   same_refused code state = record { text = refl; after = refl; wants = refl }
 
-  same_exec_turns : (turns : ℕ) (answer : Answer) (state : State) → ShowsNoFull (exec_turns rules turns answer state) behind
-      → PerformedSame counts (exec_turns rules turns answer state) (exec_turns unbounded turns answer (unbounded_of counts state))
-  same_exec_turns turns (Loaded p pages entry) state none = same_takes (begun_alone p turns) state none
-  same_exec_turns turns Done state none = same_printed false [] state
-  same_exec_turns turns (Forked p q) state none = same_printed false [] state
-  same_exec_turns turns (Saved p name space) state none = same_printed false [] state
-  same_exec_turns turns (Refused code) state none = same_printed false [] state
-  same_exec_turns turns (Full units limit) state none = same_printed false [] state
-  same_exec_turns turns Memory state none = same_printed false [] state
+  same_exec_turns : (calls : Bool) (turns : ℕ) (answer : Answer) (state : State) → ShowsNoFull (exec_turns rules calls turns answer state) behind
+      → PerformedSame counts (exec_turns rules calls turns answer state) (exec_turns unbounded calls turns answer (unbounded_of counts state))
+  same_exec_turns calls turns (Loaded p pages entry) state none = same_takes (begun_alone p calls turns) state none
+  same_exec_turns calls turns Done state none = same_printed false [] state
+  same_exec_turns calls turns (Forked p q) state none = same_printed false [] state
+  same_exec_turns calls turns (Saved p name space) state none = same_printed false [] state
+  same_exec_turns calls turns (Shared pages) state none = same_printed false [] state
+  same_exec_turns calls turns (Refused code) state none = same_printed false [] state
+  same_exec_turns calls turns (Full units limit) state none = same_printed false [] state
+  same_exec_turns calls turns Memory state none = same_printed false [] state
 
-  same_running : (p turns : ℕ) (state : State) (runs : Bool) → ShowsNoFull (cond runs (takes_turns (begun_alone p turns) state) (told false (refuses Ended state))) behind
-      → PerformedSame counts (cond runs (takes_turns (begun_alone p turns) state) (told false (refuses Ended state)))
-      (cond runs (takes_unbounded (begun_alone p turns) (unbounded_of counts state)) (told false (refuses Ended (unbounded_of counts state))))
-  same_running p turns state true none = same_takes (begun_alone p turns) state none
-  same_running p turns state false none = same_refused Ended state
+  same_running : (calls : Bool) (p turns : ℕ) (state : State) (runs : Bool) → ShowsNoFull (cond runs (takes_turns (begun_alone p calls turns) state) (told false (refuses Ended state))) behind
+      → PerformedSame counts (cond runs (takes_turns (begun_alone p calls turns) state) (told false (refuses Ended state)))
+      (cond runs (takes_unbounded (begun_alone p calls turns) (unbounded_of counts state)) (told false (refuses Ended (unbounded_of counts state))))
+  same_running calls p turns state true none = same_takes (begun_alone p calls turns) state none
+  same_running calls p turns state false none = same_refused Ended state
 
-  same_steps : (p turns : ℕ) (o : Option Process) (state : State) → ShowsNoFull (steps rules p turns o state) behind
-      → PerformedSame counts (steps rules p turns o state) (steps unbounded p turns o (unbounded_of counts state))
-  same_steps p turns None state none = same_refused NoProcess state
-  same_steps p turns (Some process) state none = same_running p turns state (runs process.state) none
+  same_steps : (calls : Bool) (p turns : ℕ) (o : Option Process) (state : State) → ShowsNoFull (steps rules calls p turns o state) behind
+      → PerformedSame counts (steps rules calls p turns o state) (steps unbounded calls p turns o (unbounded_of counts state))
+  same_steps calls p turns None state none = same_refused NoProcess state
+  same_steps calls p turns (Some process) state none = same_running calls p turns state (runs process.state) none
 
   same_regs : (p : ℕ) (o : Option Process) (state : State) → PerformedSame counts (regs_of p o state) (regs_of p o (unbounded_of counts state))
   same_regs p None state = same_refused NoProcess state
@@ -300,7 +152,7 @@ module _ (counts : List (List ℕ)) (behind : List ℕ) where
   same_prints address n text (Some process) state = same_read text process.memory (first_denied process.memory 0 address n) state
 
 -- A load, and the turns that follow it.
-module _ (counts : List (List ℕ)) (behind : List ℕ) (file : List ℕ) (turns : ℕ) (state : State) where
+module _ (counts : List (List ℕ)) (behind : List ℕ) (calls : Bool) (file : List ℕ) (turns : ℕ) (state : State) where
   abbrev here : Unbounded
   here = unbounded_of counts state
 
@@ -311,27 +163,47 @@ module _ (counts : List (List ℕ)) (behind : List ℕ) (file : List ℕ) (turns
   loaded_here = change_unbounded (load_row file (registry_of state)) here
 
   abbrev rest : Performed State
-  rest = exec_turns rules turns loaded.answer loaded.after
+  rest = exec_turns rules calls turns loaded.answer loaded.after
 
-  same_exec : ShowsNoFull (exec_done rules file turns state) behind → PerformedSame counts (exec_done rules file turns state) (exec_done unbounded file turns here)
+  same_exec : ShowsNoFull (exec_done rules calls file turns state) behind → PerformedSame counts (exec_done rules calls file turns state) (exec_done unbounded calls file turns here)
   same_exec none =
       let apart : has_full_line (answer_text loaded.answer ++ (rest.text ++ behind)) ≡ false =
       sym (ap has_full_line (append_assoc (answer_text loaded.answer) rest.text behind)) ∙ none in
       let first = changed_same counts (rest.text ++ behind) (load_row file (registry_of state)) state apart in
       let left = behind_lines (answer_text loaded.answer) (rest.text ++ behind) (answer_lines loaded.answer) apart in
-      let next = same_exec_turns counts behind turns loaded.answer loaded.after left in
-      let there : PerformedSame counts rest (exec_turns unbounded turns loaded_here.answer loaded_here.after) =
-      subst (λ a. PerformedSame counts rest (exec_turns unbounded turns a loaded_here.after)) first.0.answer_is
-      (subst (λ u. PerformedSame counts rest (exec_turns unbounded turns loaded.answer u)) first.0.left next) in
+      let next = same_exec_turns counts behind calls turns loaded.answer loaded.after left in
+      let there : PerformedSame counts rest (exec_turns unbounded calls turns loaded_here.answer loaded_here.after) =
+      subst (λ a. PerformedSame counts rest (exec_turns unbounded calls turns a loaded_here.after)) first.0.answer_is
+      (subst (λ u. PerformedSame counts rest (exec_turns unbounded calls turns loaded.answer u)) first.0.left next) in
       record {
         text = ap (λ a. answer_text a ++ rest.text) first.0.answer_is ∙ ap (λ t. answer_text loaded_here.answer ++ t) there.text;
         after = there.after;
         wants = refl;
       }
 
+-- What is told by the ledger leaves the unbounded machine as it is, and wants no memory.
+row_leaves : (counts : List (List ℕ)) (row : Row) (state : State) → row.after ≡ registry_of state
+    → unbounded_of counts (change_by row state).after ≡ unbounded_of counts state
+row_leaves counts row state stays = by_cases (first_refusal row.refusals) (is_row_full row state)
+  where
+    by_cases : (refusal : Option Code) (full : Bool) → unbounded_of counts (given_by row state refusal full).after ≡ unbounded_of counts state
+    by_cases (Some code) full = refl
+    by_cases None true = refl
+    by_cases None false = λ i. record { registry = stays i; extension = state.wholes.extension; told = counts }
+
+ledger_leaves : (counts : List (List ℕ)) (tells : LedgerTold) (state : State) → unbounded_of counts (ledger_done tells state).after ≡ unbounded_of counts state
+ledger_leaves counts TellsCounts state = refl
+ledger_leaves counts (TellsDedup p address q other) state = row_leaves counts (dedup_row p address q other state) state refl
+ledger_leaves counts (TellsDedupAll p q) state = row_leaves counts (dedup_all_row p q state) state refl
+
+ledger_wants : (tells : LedgerTold) (state : State) → (ledger_done tells state).wants_memory ≡ false
+ledger_wants TellsCounts state = refl
+ledger_wants (TellsDedup p address q other) state = refl
+ledger_wants (TellsDedupAll p q) state = refl
+
 -- the line of a command that is told by the ledger, before others
 abbrev pub with_told : Command → State → List (List ℕ) → List (List ℕ)
-with_told command state counts = option_map_or (λ done. (done state).text ∷ counts) (ledger_done command) counts
+with_told command state counts = option_map_or (λ tells. (ledger_done tells state).text ∷ counts) (told_by_ledger command) counts
 
 -- Where a command's text has no line of `full`, it comes to what it comes to in the unbounded machine.
 module _ (counts : List (List ℕ)) (behind : List ℕ) (modes : Modes) (file : List ℕ) (state : State) where
@@ -341,25 +213,38 @@ module _ (counts : List (List ℕ)) (behind : List ℕ) (modes : Modes) (file : 
 
   -- a change, of which it is known that it isn't told by the ledger
   same_changed : (c : Command) → ((at : State) → performed modes file c at ≡ change_told rules file c at)
-      → ((at : Unbounded) → performed_by unbounded modes file c at ≡ change_told unbounded file c at) → ledger_done c ≡ None → ComesSame c
+      → ((at : Unbounded) → performed_by unbounded modes file c at ≡ change_told unbounded file c at) → told_by_ledger c ≡ None → ComesSame c
   same_changed c here there is none =
       let same = same_told counts behind (change_row file c (registry_of state)) state (subst (λ x. ShowsNoFull x behind) (here state) none) in
       let left = subst (λ x. PerformedSame counts x (change_told unbounded file c (unbounded_of counts state))) (sym (here state)) same in
-      subst (λ (o : Option (State → Performed State)). PerformedSame counts (performed modes file c state)
-      (performed_by unbounded modes file c (unbounded_of (option_map_or (λ done. (done state).text ∷ counts) o counts) state))) (sym is)
+      subst (λ (o : Option LedgerTold). PerformedSame counts (performed modes file c state)
+      (performed_by unbounded modes file c (unbounded_of (option_map_or (λ tells. (ledger_done tells state).text ∷ counts) o counts) state))) (sym is)
       (subst (λ y. PerformedSame counts (performed modes file c state) y) (sym (there (unbounded_of counts state))) left)
 
+  -- one that is: the unbounded machine is given its line
+  same_given : (c : Command) (tells : LedgerTold) → ((at : State) → performed modes file c at ≡ ledger_done tells at)
+      → ((at : Unbounded) → performed_by unbounded modes file c at ≡ next_told at.told at) → told_by_ledger c ≡ Some tells
+      → PerformedSame counts (performed modes file c state) (performed_by unbounded modes file c (unbounded_of (with_told c state counts) state))
+  same_given c tells here there is =
+      let given = (ledger_done tells state).text ∷ counts in
+      let same : PerformedSame counts (ledger_done tells state) (next_told given (unbounded_of given state)) =
+      record { text = refl; after = ledger_leaves counts tells state; wants = ledger_wants tells state } in
+      subst (λ (o : Option LedgerTold). PerformedSame counts (performed modes file c state)
+      (performed_by unbounded modes file c (unbounded_of (option_map_or (λ tells. (ledger_done tells state).text ∷ counts) o counts) state))) (sym is)
+      (subst (λ y. PerformedSame counts (performed modes file c state) y) (sym (there (unbounded_of given state)))
+      (subst (λ x. PerformedSame counts x (next_told given (unbounded_of given state))) (sym (here state)) same))
+
   same_case : (c : Command) → GoesBy rules unbounded modes file c → ComesSame c
-  same_case _ (ByExec name turns) none = same_exec counts behind file turns state none
-  same_case _ (ByRun turns) none = same_takes counts behind (by_turns modes.quantum turns) state none
-  same_case _ (ByStep p turns) none = same_steps counts behind p turns (get state.wholes.processes p) state none
+  same_case _ (ByExec name turns) none = same_exec counts behind modes.calls file turns state none
+  same_case _ (ByRun turns) none = same_takes counts behind (by_turns modes.quantum modes.calls turns) state none
+  same_case _ (ByStep p turns) none = same_steps counts behind modes.calls p turns (get state.wholes.processes p) state none
   same_case _ ByList none = same_printed counts behind false (list_text (registry_of state)) state
-  same_case _ ByStats none = record { text = refl; after = refl; wants = refl }
   same_case _ (ByRegs p) none = same_regs counts behind p (get state.wholes.processes p) state
   same_case _ (ByDump p address count) none =
       same_prints counts behind address count (λ memory. dump_text memory address count) (get state.wholes.processes p) state
   same_case _ (ByDisasm p address words) none =
       same_prints counts behind address (WORD_BYTES * words) (λ memory. disasm_text modes.extension memory address words) (get state.wholes.processes p) state
+  same_case _ (ByLedger c tells here there is) none = same_given c tells here there is
   same_case _ (ByChange c here there is) none = same_changed c here there is none
 
 pub same_performed : (counts : List (List ℕ)) (behind : List ℕ) (modes : Modes) (file : List ℕ) (c : Command) (state : State)
@@ -416,26 +301,32 @@ prints_lines : (address n : ℕ) (text : Contents → List ℕ) → ((memory : C
 prints_lines address n text each None state = answer_lines (Refused NoProcess)
 prints_lines address n text each (Some process) state = read_lines text each process.memory (first_denied process.memory 0 address n) state
 
-running_lines : (p turns : ℕ) (state : State) (runs : Bool) → AreWholeLines (cond runs (takes_turns (begun_alone p turns) state) (told false (refuses Ended state))).text
-running_lines p turns state true = ran_lines (ran_from state.breakpoints state.wholes (begun_alone p turns))
-running_lines p turns state false = answer_lines (Refused Ended)
+running_lines : (calls : Bool) (p turns : ℕ) (state : State) (runs : Bool) → AreWholeLines (cond runs (takes_turns (begun_alone p calls turns) state) (told false (refuses Ended state))).text
+running_lines calls p turns state true = ran_lines (ran_from state.breakpoints state.wholes (begun_alone p calls turns))
+running_lines calls p turns state false = answer_lines (Refused Ended)
 
-steps_lines : (p turns : ℕ) (o : Option Process) (state : State) → AreWholeLines (steps rules p turns o state).text
-steps_lines p turns None state = answer_lines (Refused NoProcess)
-steps_lines p turns (Some process) state = running_lines p turns state (runs process.state)
+steps_lines : (calls : Bool) (p turns : ℕ) (o : Option Process) (state : State) → AreWholeLines (steps rules calls p turns o state).text
+steps_lines calls p turns None state = answer_lines (Refused NoProcess)
+steps_lines calls p turns (Some process) state = running_lines calls p turns state (runs process.state)
 
-exec_turns_lines : (turns : ℕ) (answer : Answer) (state : State) → AreWholeLines (exec_turns rules turns answer state).text
-exec_turns_lines turns (Loaded p pages entry) state = ran_lines (ran_from state.breakpoints state.wholes (begun_alone p turns))
-exec_turns_lines turns Done state = no_lines
-exec_turns_lines turns (Forked p q) state = no_lines
-exec_turns_lines turns (Saved p name space) state = no_lines
-exec_turns_lines turns (Refused code) state = no_lines
-exec_turns_lines turns (Full units limit) state = no_lines
-exec_turns_lines turns Memory state = no_lines
+exec_turns_lines : (calls : Bool) (turns : ℕ) (answer : Answer) (state : State) → AreWholeLines (exec_turns rules calls turns answer state).text
+exec_turns_lines calls turns (Loaded p pages entry) state = ran_lines (ran_from state.breakpoints state.wholes (begun_alone p calls turns))
+exec_turns_lines calls turns Done state = no_lines
+exec_turns_lines calls turns (Forked p q) state = no_lines
+exec_turns_lines calls turns (Saved p name space) state = no_lines
+exec_turns_lines calls turns (Shared pages) state = no_lines
+exec_turns_lines calls turns (Refused code) state = no_lines
+exec_turns_lines calls turns (Full units limit) state = no_lines
+exec_turns_lines calls turns Memory state = no_lines
 
 stats_lines : (state : State) → AreWholeLines (stats_text state)
 unfolding stats_text
 stats_lines state = ends_stats _ _ _ _ _ true
+
+ledger_lines : (tells : LedgerTold) (state : State) → AreWholeLines (ledger_done tells state).text
+ledger_lines TellsCounts state = stats_lines state
+ledger_lines (TellsDedup p address q other) state = answer_lines (change_by (dedup_row p address q other state) state).answer
+ledger_lines (TellsDedupAll p q) state = answer_lines (change_by (dedup_all_row p q state) state).answer
 
 pub performed_lines : (modes : Modes) (file : List ℕ) (c : Command) (state : State) → AreWholeLines (performed modes file c state).text
 performed_lines modes file command state = by_case command (goes_by rules rules modes file command)
@@ -443,16 +334,16 @@ performed_lines modes file command state = by_case command (goes_by rules rules 
     by_case : (c : Command) → GoesBy rules rules modes file c → AreWholeLines (performed modes file c state).text
     by_case _ (ByExec name turns) =
         let loaded = change_by (load_row file (registry_of state)) state in
-        lines_both (answer_text loaded.answer) _ (answer_lines loaded.answer) (exec_turns_lines turns loaded.answer loaded.after)
-    by_case _ (ByRun turns) = ran_lines (ran_from state.breakpoints state.wholes (by_turns modes.quantum turns))
-    by_case _ (ByStep p turns) = steps_lines p turns (get state.wholes.processes p) state
+        lines_both (answer_text loaded.answer) _ (answer_lines loaded.answer) (exec_turns_lines modes.calls turns loaded.answer loaded.after)
+    by_case _ (ByRun turns) = ran_lines (ran_from state.breakpoints state.wholes (by_turns modes.quantum modes.calls turns))
+    by_case _ (ByStep p turns) = steps_lines modes.calls p turns (get state.wholes.processes p) state
     by_case _ ByList = list_lines (registry_of state)
-    by_case _ ByStats = stats_lines state
     by_case _ (ByRegs p) = regs_lines p (get state.wholes.processes p) state
     by_case _ (ByDump p address count) =
         prints_lines address count (λ memory. dump_text memory address count) (λ memory. dump_lines _ memory address count) (get state.wholes.processes p) state
     by_case _ (ByDisasm p address words) =
         prints_lines address (WORD_BYTES * words) (λ memory. disasm_text modes.extension memory address words) (λ memory. disasm_lines modes.extension memory address words)
         (get state.wholes.processes p) state
-    by_case _ (ByChange c here there counts) =
+    by_case _ (ByLedger c tells here there is) = subst (λ x. AreWholeLines x.text) (sym (here state)) (ledger_lines tells state)
+    by_case _ (ByChange c here there is) =
         subst (λ x. AreWholeLines x.text) (sym (here state)) (answer_lines (change_by (change_row file c (registry_of state)) state).answer)

@@ -11,14 +11,14 @@
 //! - `checkpoints`: what is kept of them, by name
 //! - `process_changes`: changes of one process that is there: speculation, promotion, pages and registers
 //! - `mapping`: pages that are mapped, and that are given up
+//! - `dedup`: pages that are put on those of another process
 //! - `poking`: bytes that are stored
 //! - `reading`: bytes that are looked at
-//! - `turns`: a run in progress
-//! - `taking`: its turns, taken
 #![tactic(auto)]
 
 mod assembling;
 mod checkpoints;
+mod dedup;
 mod forking;
 mod mapping;
 mod modes;
@@ -27,12 +27,10 @@ mod process_changes;
 mod reading;
 mod saving;
 mod session;
-mod taking;
-mod turns;
 
 pub use modes::Modes;
 pub use session::{CheckpointView, Counts, ProcessView, Session};
-pub use turns::{Order, Running};
+pub use process_runs::{Order, Running};
 
 /// Bytes of an instruction's word.
 pub const WORD_BYTES: u64 = 4;

@@ -9,4 +9,6 @@ pub struct Modes {
     pub quantum: u32,
     /// Whether there is extension M: multiplication and division.
     pub extension: bool,
+    /// Whether processes may speculate by themselves, by requests of ECALL.
+    pub calls: bool,
 }

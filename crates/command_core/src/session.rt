@@ -3,36 +3,39 @@ ghost use Rattle.script_text.specs.Given.{IsGiven, asks};
 ghost use Rattle.report_text.specs.Answers.{IsCheckpointName};
 ghost use Rattle.sizes.specs.declared.TheConstants.{ADDRESS_END, LAST_SPACE, MOST_FILE_BYTES, MOST_FRAMES, PAGE_BYTES};
 ghost use Rattle.command_core.specs.State.{fresh, registry_of, State, extended};
-ghost use Rattle.command_core.specs.Sessions.{AreSettledCounts, KeepsRest, fresh_session, extended_session};
+ghost use Rattle.command_core.specs.Sessions.{AreSettledCounts, KeepsRest, called_session, fresh_session, extended_session};
 ghost use Rattle.command_core.specs.Giving.{GivesChange, WantKeeps};
-ghost use Rattle.command_core.specs.Rows.{still_row};
+ghost use Rattle.command_core.specs.Deduplication.{dedup_all_row, dedup_row};
+ghost use Rattle.command_core.specs.Rows.{registered, still_row};
 ghost use Rattle.command_core.specs.Copies.{fork_row};
 ghost use Rattle.command_core.specs.ProcessChanges.{process_row};
 ghost use Rattle.command_core.specs.Debugging.{break_row, poke_row, unbreak_row};
 ghost use Rattle.command_core.specs.Checkpoints.{checkpoint_row, forget_row, on_checkpoint, restore_row};
-ghost use Rattle.command_core.specs.Changes.{CanBeTold, TakesText, answer_of, asm_row, change_row, drop_row, load_row, on_process};
+ghost use Rattle.command_core.specs.Changes.{CanBeTold, TakesText, answer_of, asm_row, drop_row, load_row, on_process, row_in};
 ghost use Rattle.command_core.specs.Commands.{RunsLoaded};
 ghost use Rattle.command_core.specs.Looks.{BeginsStep, CanRead, LooksAt, LooksAtCheckpoint, NextProcess, ReadsBytes, counts_of, look_of, looked_at};
 ghost use Rattle.command_core.specs.Ample.{IsAmplyDone};
-ghost use Rattle.command_core.specs.Standing.{SessionAnswersAs, GivesAs, HoldsFor, SessionStandsFor, TurnsAs, begun_run, begun_step, ends_run, speaks, takes_turn};
+ghost use Rattle.command_core.specs.Standing.{SessionAnswersAs, GivesAs, HoldsFor, PlaysAs, SessionStandsFor, TurnsAs, begun_run, begun_step, ends_run, speaks, takes_turn};
 ghost use Rattle.std.specs.FinMap.{get};
-ghost use Rattle.command_core.specs.Turns.{IsTurnLine, begun_by, lines_left, run_found};
+ghost use Rattle.machine_core.specs.Machine.{AreLike};
+ghost use Rattle.process_runs.specs.Played.{AreOwnCalledTurns, run_over};
+ghost use Rattle.process_runs.specs.Turns.{IsTurnLine, begun_by, lines_left, run_found};
 
 use crate::assembling::not_assembled;
 use crate::checkpoints::{Checkpoints, Kept};
+use crate::dedup::{dedup_page, dedup_pages};
 use crate::forking::{fork_number, fork_process};
 use crate::modes::Modes;
 use crate::poking::poke;
 use crate::process_changes::{ProcessChange, change_process};
 use crate::reading::{can_read, read_bytes};
 use crate::saving::{checkpoint_number, restore_process, save_process};
-use crate::taking::{ending, next_turn, turns_to_line};
-use crate::turns::{Order, Running};
 use breakpoints::Breakpoints;
 use elf_loader::{ElfError, read_image};
 use free_numbers::FreeNumbers;
 use machine_core::{Machine, SpaceError};
 use ovl_io::{Bytes, ProcessState, Turn};
+use process_runs::{Order, Running, begin, next_turn, play, turns_to_line};
 use report_text::{Answer, Code, Line};
 use round_robin::RoundRobin;
 use rv_asm::assemble;
@@ -133,9 +136,9 @@ impl Session {
         requires few { frames ≤ MOST_FRAMES }
         requires quantum { 1 ≤ quantum }
         ensures session { IfOk result (λ session. session ≡ fresh_session
-            (record { frames = frames; quantum = quantum; extension = false }) session.free_blocks) }
+            (record { frames = frames; quantum = quantum; extension = false; calls = false }) session.free_blocks) }
         ensures stands { IfOk result (λ session. SessionStandsFor session
-            (fresh (record { frames = frames; quantum = quantum; extension = false }))) }
+            (fresh (record { frames = frames; quantum = quantum; extension = false; calls = false }))) }
     {
         Ok(Session {
             alloc,
@@ -147,6 +150,7 @@ impl Session {
                 frames,
                 quantum,
                 extension: false,
+                calls: false,
             },
         })
     }
@@ -162,6 +166,14 @@ impl Session {
         self.modes.extension = on;
     }
 
+    /// Processes may speculate by themselves from now on, or may not: turns go by it. Nothing else changes. Takes no memory.
+    pub fn set_calls(&mut self, on: bool)
+        ensures set { self.new ≡ called_session on self.old }
+        ensures stands { (state : State) → SessionStandsFor self.old state → SessionStandsFor self.new state }
+    {
+        self.modes.calls = on;
+    }
+
     /// Whether there is extension M.
     pub fn has_extension(&self) -> bool
         ensures { result ≡ self.now.modes.extension }
@@ -175,8 +187,8 @@ impl Session {
     pub fn load(&mut self, file: &[u8]) -> Answer
         ensures gives { GivesChange (load_row file.now (registry_of self.old.state)) self.old.state
             result self.new.state }
-        ensures stands { GivesAs (load_row file.now) self.old result self.new }
-        ensures ample { IsAmplyDone (load_row file.now) self.old result }
+        ensures stands { GivesAs (registered (load_row file.now)) self.old result self.new }
+        ensures ample { IsAmplyDone (registered (load_row file.now)) self.old result }
         ensures want { WantKeeps self.old result self.new }
         ensures told { CanBeTold result }
         ensures runs { RunsLoaded result self.new.state }
@@ -206,9 +218,9 @@ impl Session {
         requires { length text.now ≤ MOST_FILE_BYTES }
         ensures gives { GivesChange (asm_row text.now (registry_of self.old.state)) self.old.state
             result self.new.state }
-        ensures stands { GivesAs (asm_row text.now) self.old result self.new }
+        ensures stands { GivesAs (registered (asm_row text.now)) self.old result self.new }
         ensures taken { TakesText text.now result }
-        ensures ample { IsAmplyDone (asm_row text.now) self.old result }
+        ensures ample { IsAmplyDone (registered (asm_row text.now)) self.old result }
         ensures want { WantKeeps self.old result self.new }
         ensures told { CanBeTold result }
         ensures modes { self.new.modes ≡ self.old.modes }
@@ -415,6 +427,29 @@ impl Session {
         Answer::Done
     }
 
+    /// Puts the page of an address of process `p` on that of an address of process `q`: they share a frame, and what differs becomes own
+    /// lines. No process changes, and the units fall.
+    fn dedup(&mut self, p: u16, address: u64, q: u16, other: u64) -> Answer
+        ensures gives { GivesChange (dedup_row p address q other self.old.state) self.old.state
+            result self.new.state }
+        ensures want { WantKeeps self.old result self.new }
+        ensures told { CanBeTold result }
+        ensures modes { self.new.modes ≡ self.old.modes }
+    {
+        dedup_page(&mut self.machine, p, address, q, other)
+    }
+
+    /// Puts each page of process `p` that process `q` has too on that one, where that can be, and passes over the others.
+    fn dedup_all(&mut self, p: u16, q: u16) -> Answer
+        ensures gives { GivesChange (dedup_all_row p q self.old.state) self.old.state
+            result self.new.state }
+        ensures want { WantKeeps self.old result self.new }
+        ensures told { CanBeTold result }
+        ensures modes { self.new.modes ≡ self.old.modes }
+    {
+        dedup_pages(&mut self.machine, p, q)
+    }
+
     /// Gives up a process.
     fn drop_process(&mut self, p: u16) -> Answer
         ensures gives { GivesChange (on_process p (drop_row p) (registry_of self.old.state)) self.old.state
@@ -439,7 +474,7 @@ impl Session {
     fn do_row(&mut self, command: &Command) -> Answer
         requires asks { asks command.now ≡ None }
         requires given { IsGiven command.now }
-        ensures gives { GivesChange (change_row [] command.now (registry_of self.old.state)) self.old.state
+        ensures gives { GivesChange (row_in [] command.now self.old.state) self.old.state
             result self.new.state }
         ensures settled { command.now ≡ Command.Compact → AreSettledCounts self.new.free_blocks }
         ensures want { WantKeeps self.old result self.new }
@@ -458,6 +493,8 @@ impl Session {
                 self.change_process(*p, ProcessChange::Promote(*address))
             }
             Command::PromoteAll(p) => self.change_process(*p, ProcessChange::PromoteAll),
+            Command::Dedup(p, address, q, other) => self.dedup(*p, *address, *q, *other),
+            Command::DedupAll(p, q) => self.dedup_all(*p, *q),
             Command::Compact => self.compact(),
             Command::Map(p, address, n, perms) => {
                 self.change_process(*p, ProcessChange::Map(*address, *n, *perms))
@@ -492,10 +529,10 @@ impl Session {
     pub fn change(&mut self, command: &Command) -> Answer
         requires asks { asks command.now ≡ None }
         requires given { IsGiven command.now }
-        ensures gives { GivesChange (change_row [] command.now (registry_of self.old.state)) self.old.state
+        ensures gives { GivesChange (row_in [] command.now self.old.state) self.old.state
             result self.new.state }
-        ensures stands { GivesAs (change_row [] command.now) self.old result self.new }
-        ensures ample { IsAmplyDone (change_row [] command.now) self.old result }
+        ensures stands { GivesAs (row_in [] command.now) self.old result self.new }
+        ensures ample { IsAmplyDone (row_in [] command.now) self.old result }
         ensures settled { command.now ≡ Command.Compact → AreSettledCounts self.new.free_blocks }
         ensures want { WantKeeps self.old result self.new }
         ensures told { CanBeTold result }
@@ -506,16 +543,16 @@ impl Session {
 
     /// Begins so many turns, at least 1, by round robin.
     pub fn begin_run(&self, turns: u32) -> Running
-        ensures begun { result ≡ begun_run self.now.modes.quantum turns self.now.state }
-        ensures stands { SessionAnswersAs (begun_run self.now.modes.quantum turns) self.now result }
+        ensures begun { result ≡ begun_run self.now.modes.quantum self.now.modes.calls turns self.now.state }
+        ensures stands { SessionAnswersAs (begun_run self.now.modes.quantum self.now.modes.calls turns) self.now result }
     {
         self.begin(Order::ByTurns(RoundRobin::new(self.modes.quantum)), turns)
     }
 
     /// Begins so many turns, at least 1, of one process. Refused where there is none, or where it has ended.
     pub fn begin_step(&self, p: u16, turns: u32) -> Result<Running, Code>
-        ensures begun { BeginsStep self.now.state.breakpoints self.now.state.wholes p turns result }
-        ensures stands { SessionAnswersAs (begun_step p turns) self.now result }
+        ensures begun { BeginsStep self.now.state.breakpoints self.now.state.wholes self.now.modes.calls p turns result }
+        ensures stands { SessionAnswersAs (begun_step self.now.modes.calls p turns) self.now result }
     {
         match self.machine.process(p) {
             None => Err(Code::NoProcess),
@@ -528,12 +565,10 @@ impl Session {
 
     /// A run of which no turn was taken, with the ending that holds.
     fn begin(&self, order: Order, turns: u32) -> Running
-        ensures { result ≡ run_found self.now.state.breakpoints self.now.state.wholes (begun_by order turns) }
+        ensures { result ≡ run_found self.now.state.breakpoints self.now.state.wholes
+            (begun_by order self.now.modes.calls turns) }
     {
-        let mut running = Running::new(order, turns);
-        let stop = ending(&self.machine, &self.breakpoints, &running);
-        running.set_stop(stop);
-        running
+        begin(&self.machine, &self.breakpoints, order, self.modes.calls, turns)
     }
 
     /// Takes the next turn, and answers whose it was and what came of it. None exactly where an ending was found before,
@@ -565,6 +600,18 @@ impl Session {
         ensures others { KeepsRest self.old self.new }
     {
         turns_to_line(&mut self.machine, &self.breakpoints, running, line)
+    }
+
+    /// Takes one turn of each number, in order, and passes over those that aren't running then. Processes may speculate by themselves, whatever
+    /// `set_calls` said. So each process is its own turns: what as many of its own as weren't answered Full make of it, with what is kept of it,
+    /// whatever others did between. Takes no memory.
+    pub fn play_calls(&mut self, turns: &[u16])
+        ensures plays { AreLike self.new.state.wholes (run_over turns.now self.old.state.wholes) }
+        ensures own { AreOwnCalledTurns turns.now self.old.state.wholes self.new.state.wholes }
+        ensures stands { PlaysAs turns.now self.old self.new }
+        ensures others { KeepsRest self.old self.new }
+    {
+        play(&mut self.machine, turns);
     }
 
     /// A process, by its number; refused where there is none.

@@ -32,7 +32,8 @@ use Rattle.delta_spaces.specs.Imported.{classes, imported_at, placed_units}
 use Rattle.delta_spaces.specs.Made.{IsMade}
 use Rattle.delta_spaces.specs.Rows.{row_added}
 use Rattle.delta_spaces.proofs.Bytes.{applied_none}
-use Rattle.delta_spaces.proofs.Lines.{byte_count, bytes_absent, bytes_there, zero_page_is}
+use Rattle.overlay_pages.specs.LineLaws.{byte_count}
+use Rattle.delta_spaces.proofs.Lines.{bytes_absent, bytes_there, zero_page_is}
 use Rattle.delta_spaces.proofs.Parts.{Rising, apart_all, apart_at, bare_class, here, kept_append, kept_classes, kept_rising, page_added, rising, rows_append, rows_rise, split_at, front_more}
 
 -- The pages of the space, without their lines.

@@ -1,13 +1,12 @@
-use Rattle.std.specs.Prelude.{◌≡◌, ℕ, ◌+◌, ◌*◌, ◌/◌, ◌%◌, ◌<◌, ◌≤◌, Bool, true, false, cond, ◌||◌, if◌then◌else◌, nat_eq, List, length, take, drop, get_or, replicate, slice_index, Option, Some, None, IsSome, is_some, refl}
+use Rattle.std.specs.Prelude.{◌≡◌, ℕ, ◌+◌, ◌*◌, ◌/◌, ◌%◌, ◌<◌, ◌≤◌, Bool, true, false, cond, ◌||◌, if◌then◌else◌, nat_eq, List, length, take, drop, get_or, replicate, Option, Some, None, IsSome, is_some, refl}
 use Rattle.std.proofs.Common.{sym, ap, ◌∙◌, arith, length-drop}
 use Rattle.std.proofs.lemmas.Bool.Decides.{nat_tests}
 use Rattle.std.proofs.lemmas.Grind.{same_number_lists}
 use Rattle.std.proofs.lemmas.List.{get_or-drop, get_or-replicate, get_or-take, length-replicate, length-take-le}
-use Rattle.std.proofs.lemmas.List.FromFn.{get_or-map-range_with_len, length-map-range_with_len}
 use Rattle.std.specs.Int.Bits.{and_zero_r}
 use Rattle.std.specs.Option.{option_map, option_map_or}
 use Rattle.std.specs.FinMap.{get}
-use Rattle.sizes.specs.declared.TheConstants.{LINE_BYTES, PAGE_BYTES, PAGE_END, PAGE_LINES}
+use Rattle.sizes.specs.declared.TheConstants.{PAGE_BYTES, PAGE_END, PAGE_LINES}
 use Rattle.ovl_io.specs.Memory.{Page, bytes_at, first_denied}
 use Rattle.ovl_io.specs.MemoryLaws.{all_allowed, bytes_in}
 use Rattle.ovl_io.specs.PageBytes.{IsMemory}
@@ -23,8 +22,8 @@ use Rattle.space_maps.specs.Options.{map_from, none_by}
 use Rattle.space_maps.specs.Spaces.{page_in}
 use Rattle.overlay_pages.specs.Changes.{frame_but_zero}
 use Rattle.overlay_pages.specs.Lines as lines
-use Rattle.overlay_pages.specs.Lines.{bytes_in_lines, bytes_of_page, line_in_page, page_lines}
-use Rattle.overlay_pages.specs.LineLaws.{line_at}
+use Rattle.overlay_pages.specs.Lines.{bytes_in_lines, line_in_page}
+use Rattle.overlay_pages.specs.LineLaws.{byte_at, byte_count, line_at}
 use Rattle.overlay_pages.specs.State.{PageState, State, memory_of, seen_page}
 use Rattle.overlay_pages.specs.View.{IsJoined, MemoryView, line_seen, page_state, state_of}
 use Rattle.overlay_pages.specs.ViewLaws.{state_page}
@@ -40,21 +39,6 @@ use Rattle.delta_image.specs.AppliedLaws.{line_long}
 use Rattle.delta_spaces.specs.Gathered.{AreSameBeside}
 
 -- The bytes of a page by its lines.
-
-bytes_of_page_is : bytes_of_page ≡ 4096
-unfolding bytes_of_page
-bytes_of_page_is = refl
-
-pub byte_count : (lines : List (List ℕ)) → length (bytes_in_lines lines) ≡ PAGE_BYTES
-unfolding bytes_in_lines
-byte_count lines =
-    length-map-range_with_len (λ i. slice_index (line_in_page lines (i / LINE_BYTES)) (i % LINE_BYTES)) 0 bytes_of_page ∙ bytes_of_page_is
-
-byte_at : (lines : List (List ℕ)) (i : ℕ) → i < 4096 → get_or (bytes_in_lines lines) i 0 ≡ get_or (line_in_page lines (i / 64)) (i % 64) 0
-unfolding bytes_in_lines
-byte_at lines i low =
-    get_or-map-range_with_len (λ i. slice_index (line_in_page lines (i / LINE_BYTES)) (i % LINE_BYTES)) 0 bytes_of_page i i 0
-    (omega (arith, low, bytes_of_page_is)) (omega arith)
 
 byte_in : (lines : List (List ℕ)) (line k : ℕ) → line < 64 → k < 64 → get_or (line_in (bytes_in_lines lines) line) k 0 ≡ get_or (line_in_page lines line) k 0
 byte_in lines line k low within =

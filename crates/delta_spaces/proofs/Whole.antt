@@ -19,7 +19,7 @@ use Rattle.delta_image.specs.Fine.{Ascend, IsPage, IsPlain}
 use Rattle.delta_image.specs.Image.{image_of, registers_part, state_part}
 use Rattle.delta_image.specs.LengthLaws.{AreWhole, length_of_parts, line_count}
 use Rattle.delta_spaces.specs.Gathered.{HasFitPages, gathered_pages}
-use Rattle.delta_spaces.proofs.Lines.{byte_count}
+use Rattle.overlay_pages.specs.LineLaws.{byte_count}
 
 -- A delta that is gathered: how long its image is, and that it may be encoded.
 

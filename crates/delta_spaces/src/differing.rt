@@ -14,16 +14,6 @@ use overlay_bits::Bits;
 use overlay_memory::OverlayMemory;
 use sizes::{LINE_BYTES, PAGE_BYTES, PAGE_LINES};
 
-/// Whether a page is there. Costs a look-up.
-pub(crate) fn has_page(mem: &OverlayMemory, space: u16, page: u64) -> bool
-    ensures { result ≡ is_some (page_in (state_of mem.now) space page) }
-{
-    match mem.next_page(space, page) {
-        Some(found) => found == page,
-        None => false,
-    }
-}
-
 /// How many pages from one on are on the zero frame and without own lines in both spaces. It may tell fewer than there are. Costs some
 /// look-ups.
 pub(crate) fn zeros_of_both(mem: &OverlayMemory, saved: u16, base: u16, page: u64) -> u32
@@ -39,8 +29,7 @@ pub(crate) fn zeros_of_both(mem: &OverlayMemory, saved: u16, base: u16, page: u6
     if zeros == 0 {
         return 0;
     }
-    let others = mem.zeros_from(base, page);
-    if others < zeros { others } else { zeros }
+    mem.zeros_from(base, page).min(zeros)
 }
 
 /// A line of a page that is there. Costs a look-up, and a copy of the line.
@@ -149,7 +138,7 @@ pub(crate) fn differing(mem: &OverlayMemory, saved: u16, base: u16, page: u64) -
         (memory_of (state_of mem.now) base) page) }
     ensures are { AreLines result }
 {
-    let based = has_page(mem, base, page);
+    let based = mem.has_page(base, page);
     let may = may_differ(mem, saved, base, page, based);
     those_apart(mem, saved, base, page, based, may)
 }

@@ -9,7 +9,6 @@ ghost use Rattle.space_maps.specs.Spaces.{page_in, space_in};
 ghost use Rattle.translation_cache.specs.Translations.{flushed};
 ghost use Rattle.delta_spaces.specs.Built.{CanBegin, CanFill, CanMap, CanPut, HasBegun, HasPut, IsBeside, bare_pages, kept_pages};
 
-use crate::differing::has_page;
 use delta_image::DeltaPage;
 use overlay_memory::OverlayMemory;
 use std::alloc::AllocError;
@@ -23,7 +22,7 @@ pub(crate) fn share_pages(mem: &mut OverlayMemory, base: u16, to: u16, pages: &[
     ensures translations { translations_of mem.new ≡ translations_of mem.old }
 {
     'sharing: for page in pages {
-        if has_page(mem, base, page.page) {
+        if mem.has_page(base, page.page) {
             mem.share_page(base, to, page.page);
         }
     }
@@ -46,7 +45,7 @@ pub(crate) fn map_pages(
     ensures translations { translations_of mem.new ≡ translations_of mem.old }
 {
     'mapping: for page in pages {
-        if !has_page(mem, base, page.page) {
+        if !mem.has_page(base, page.page) {
             mem.map_zero(to, page.page, 1, page.perms)?;
         }
     }

@@ -11,7 +11,6 @@ ghost use Rattle.delta_image.specs.Fine.{Ascend, IsPlain};
 ghost use Rattle.delta_image.specs.Line.{numbers_of};
 ghost use Rattle.delta_spaces.specs.Built.{built_units};
 
-use crate::differing::has_page;
 use delta_image::DeltaPage;
 use overlay_bits::Bits;
 use overlay_memory::{OverlayMemory, class_of};
@@ -20,7 +19,7 @@ use overlay_memory::{OverlayMemory, class_of};
 fn base_lines(mem: &OverlayMemory, base: u16, page: u64) -> Bits
     ensures { result ≡ (imported (books (state_of mem.now)) base page []).own }
 {
-    if has_page(mem, base, page) {
+    if mem.has_page(base, page) {
         mem.lines_of(base, page)
     } else {
         Bits::empty()

@@ -14,7 +14,7 @@ use Rattle.machine_core.specs.Turns.{Guest, after_asked, after_turn, executed, e
 -- Laws: where nothing of a space was translated, turns of another process leave it so.
 
 module _ (q p : ℕ) (other : q ≡ p → ⊥) where
-  none_executed : (guest : Guest) → HasNone q guest.translations → HasNone q (executed p guest).translations
+  pub none_executed : (guest : Guest) → HasNone q guest.translations → HasNone q (executed p guest).translations
   unfolding translations_executed
   none_executed guest none = by_full (is_full p guest)
     where
@@ -25,7 +25,7 @@ module _ (q p : ℕ) (other : q ≡ p → ⊥) where
       by_full true = tried
       by_full false = tried
 
-  none_after : (guest : Guest) → HasNone q guest.translations → HasNone q (guest_after p guest).translations
+  pub none_after : (guest : Guest) → HasNone q guest.translations → HasNone q (guest_after p guest).translations
   unfolding translations_executed translations_after
   none_after guest none = by_full (is_full p guest)
     where
@@ -56,7 +56,7 @@ module _ (q p : ℕ) (other : q ≡ p → ⊥) where
       by_outcome (Full units limit) next others tried further = tried
 
   -- of the copying machine, whose process may be there
-  left_none : (state : Wholes) (f : Guest → Guest) → ((guest : Guest) → HasNone q guest.translations → HasNone q (f guest).translations)
+  pub left_none : (state : Wholes) (f : Guest → Guest) → ((guest : Guest) → HasNone q guest.translations → HasNone q (f guest).translations)
       → HasNone q state.translations → HasNone q (option_map_or (λ guest. with_guest state p (f guest)) (guest_at state p) state).translations
   left_none state f keeps none = by_process (get state.processes p)
     where

@@ -212,7 +212,7 @@ like_requested p a b like =
     ap (λ (process : Process). counted p process.memory (request_of p process).accesses a.translations) like.process
     ∙ ap (λ t. counted p b.process.memory (request_of p b.process).accesses t) like.translations
 
-like_refused : (p : ℕ) (a b : Guest) → AreLikeGuests a b → AreLikeGuests (guest_refused p a) (guest_refused p b)
+pub like_refused : (p : ℕ) (a b : Guest) → AreLikeGuests a b → AreLikeGuests (guest_refused p a) (guest_refused p b)
 like_refused p a b like = like_moved like like.process like.ledger (like_tried p a b like)
 
 alike_stored : (p : ℕ) (speculating : Bool) (store : Option (ℕ × ℕ)) (k l : Ledger) → AreAlike k l → AreAlike (ledger_stored p speculating store k) (ledger_stored p speculating store l)
@@ -328,7 +328,7 @@ like_resumed stops p most a b like =
 
 -- of a process that may be there
 module _ (p : ℕ) (a b : Wholes) (like : AreLike a b) where
-  at_both : {X : Type 0} (f : Guest → X) (d : X) → ((g h : Guest) → AreLikeGuests g h → f g ≡ f h)
+  pub at_both : {X : Type 0} (f : Guest → X) (d : X) → ((g h : Guest) → AreLikeGuests g h → f g ≡ f h)
       → option_map_or f (guest_at a p) d ≡ option_map_or f (guest_at b p) d
   at_both {X = X} f d same = by_found (get a.processes p) ∙ ap (λ (o : Option Process). option_map_or f (option_map (guest_of b) o) d) (ap (λ (ps : Processes). get ps p) like.processes)
     where

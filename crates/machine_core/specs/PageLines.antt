@@ -1,20 +1,12 @@
-use Rattle.std.proofs.Common.{◌≡◌, ℕ, ◌+◌, ◌*◌, ◌/◌, ◌%◌, ◌<◌, List, [], length, get_or, take, drop, replicate, sym, ap, ◌∙◌, refl, arith, slice_index}
+use Rattle.std.proofs.Common.{◌≡◌, ℕ, ◌+◌, ◌*◌, ◌/◌, ◌%◌, ◌<◌, List, length, get_or, take, drop, replicate, sym, ap, ◌∙◌, refl, arith}
 use Rattle.std.proofs.lemmas.Grind.{same_number_lists}
 use Rattle.std.proofs.lemmas.List.{get_or-drop, get_or-replicate, get_or-take, length-replicate}
-use Rattle.std.proofs.lemmas.List.FromFn.{get_or-map-range_with_len, length-map-range_with_len}
 use Rattle.sizes.specs.declared.TheConstants.{LINE_BYTES}
 use Rattle.elf_loader.specs.Image.{page_length}
-use Rattle.overlay_pages.specs.Lines.{bytes_in_lines, bytes_of_line, bytes_of_page, line_in_page, lines_of_bytes, lines_of_page, page_lines, zero_line, zero_page}
+use Rattle.overlay_pages.specs.LineLaws.{byte_at, byte_count, line_at}
+use Rattle.overlay_pages.specs.Lines.{bytes_in_lines, bytes_of_line, lines_of_bytes, zero_line, zero_page}
 
 -- The bytes of a page that is placed as a whole, and of a zero page.
-
-bytes_of_page_is : bytes_of_page ≡ 4096
-unfolding bytes_of_page
-bytes_of_page_is = refl
-
-lines_of_page_is : lines_of_page ≡ 64
-unfolding lines_of_page
-lines_of_page_is = refl
 
 bytes_of_line_is : bytes_of_line ≡ 64
 unfolding bytes_of_line
@@ -23,21 +15,6 @@ bytes_of_line_is = refl
 pub page_length_is : page_length ≡ 4096
 unfolding page_length
 page_length_is = refl
-
-byte_count : (lines : List (List ℕ)) → length (bytes_in_lines lines) ≡ 4096
-unfolding bytes_in_lines
-byte_count lines =
-    length-map-range_with_len (λ i. slice_index (line_in_page lines (i / LINE_BYTES)) (i % LINE_BYTES)) 0 bytes_of_page ∙ bytes_of_page_is
-
-byte_at : (lines : List (List ℕ)) (i : ℕ) → i < 4096 → get_or (bytes_in_lines lines) i 0 ≡ get_or (line_in_page lines (i / 64)) (i % 64) 0
-unfolding bytes_in_lines
-byte_at lines i low =
-    get_or-map-range_with_len (λ i. slice_index (line_in_page lines (i / LINE_BYTES)) (i % LINE_BYTES)) 0 bytes_of_page i i 0
-    (omega (arith, low, bytes_of_page_is)) (omega arith)
-
-line_at : (line : ℕ → List ℕ) (k : ℕ) → k < 64 → line_in_page (page_lines line) k ≡ line k
-unfolding page_lines
-line_at line k low = get_or-map-range_with_len line 0 lines_of_page k k [] (omega (arith, low, lines_of_page_is)) (omega arith)
 
 -- lines that are made of bytes have those bytes
 pub lines_joined : (bytes : List ℕ) → length bytes ≡ 4096 → bytes_in_lines (lines_of_bytes bytes) ≡ bytes

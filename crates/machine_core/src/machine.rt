@@ -296,8 +296,9 @@ impl Machine {
         )
     }
 
-    /// Executes one instruction of a running process, but not what it asks for.
-    fn execute(&mut self, p: u16) -> Outcome
+    /// Executes one instruction of a running process, whose space is there, but not what it asks for where it is ECALL: that is left to `answer`.
+    /// `Full` exactly where the units after its store would exceed the limit, and then it isn't done. Takes no memory.
+    pub fn execute(&mut self, p: u16) -> Outcome
         requires runs { is_running (wholes self.old) p ≡ true }
         requires there { has_space self.old p ≡ true }
         requires none_awaits { NoneAwaits (spaces_of self.old) p }

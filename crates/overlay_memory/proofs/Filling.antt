@@ -18,7 +18,8 @@ use Rattle.overlay_pages.specs.View.{MemoryView, state_of}
 use Rattle.overlay_memory.specs.Access.{IsUntouched}
 use Rattle.overlay_memory.specs.Pieces.{IsFilled}
 use Rattle.overlay_memory.specs.StateMemory.{base_beside, base_kept, beside_both, beside_put, books_kept, entries_kept, mark_put, memory_put, writable_at, writable_same, writes_same}
-use Rattle.overlay_memory.proofs.LineBytes.{line_written, page_count}
+use Rattle.overlay_pages.specs.LineLaws.{byte_count}
+use Rattle.overlay_memory.proofs.LineBytes.{line_written}
 use Rattle.overlay_memory.proofs.Pieced.{seen_there}
 use Rattle.overlay_memory.proofs.Views.{lines_count}
 use Rattle.space_maps.specs.Laws.{changed_there, page_put_beside, page_put_here}
@@ -77,7 +78,7 @@ written_filled v s p line at bytes old x there is all low whole some fits can =
       memory =
           memory_put v s p (written line (overwritten old at bytes) x)
           ∙ ap (λ bs. insert (memory_of v s) p (record { perms = x.entry.perms.0; bytes = bs })) bytes_are
-          ∙ sym (stored_in (memory_of v s) p (4096 * p + (64 * line + at)) (64 * line + at) bytes (seen_page x) (seen_there v s p x there) (page_count x.lines) refl
+          ∙ sym (stored_in (memory_of v s) p (4096 * p + (64 * line + at)) (64 * line + at) bytes (seen_page x) (seen_there v s p x there) (byte_count x.lines) refl
           (omega (arith, low, fits)));
       ledger = books_kept v s p (written line (overwritten old at bytes) x) x there refl refl;
       base = base_stays v s p line (overwritten old at bytes) x there can;

@@ -1,30 +1,14 @@
-use Rattle.std.proofs.Common.{◌≡◌, ℕ, ◌+◌, ◌-◌, ◌*◌, ◌/◌, ◌%◌, ◌<◌, ◌≤◌, ◌⊎◌, inl, inr, List, [], length, get_or, take, drop, sym, ap, ◌∙◌, refl, arith, length-drop, slice_index, slice_set}
+use Rattle.std.proofs.Common.{◌≡◌, ℕ, ◌+◌, ◌-◌, ◌*◌, ◌/◌, ◌%◌, ◌<◌, ◌≤◌, ◌⊎◌, inl, inr, List, [], length, get_or, take, drop, sym, ap, ◌∙◌, arith, length-drop, slice_set}
 use Rattle.std.proofs.lemmas.Bool.{cases_eq, cases_lt}
 use Rattle.std.proofs.lemmas.Grind.{same_number_lists}
 use Rattle.std.proofs.lemmas.List.{get_or-set_same, get_or-set_other, get_or-take, get_or-drop, length-take-le}
-use Rattle.std.proofs.lemmas.List.FromFn.{get_or-map-range_with_len, length-map-range_with_len}
-use Rattle.sizes.specs.declared.TheConstants.{LINE_BYTES, PAGE_BYTES, PAGE_LINES}
+use Rattle.sizes.specs.declared.TheConstants.{LINE_BYTES, PAGE_LINES}
 use Rattle.ovl_io.specs.PageBytes.{overwritten}
-use Rattle.overlay_pages.specs.Lines.{bytes_in_lines, bytes_of_page, line_in_page}
+use Rattle.overlay_pages.specs.Lines.{bytes_in_lines, line_in_page}
+use Rattle.overlay_pages.specs.LineLaws.{byte_at, byte_count}
 use Rattle.overlay_memory.proofs.Overwritten.{before, inside, behind, count}
 
--- The bytes of a page by its lines.
-
-bytes_of_page_is : bytes_of_page ≡ 4096
-unfolding bytes_of_page
-bytes_of_page_is = refl
-
-pub page_count : (lines : List (List ℕ)) → length (bytes_in_lines lines) ≡ PAGE_BYTES
-unfolding bytes_in_lines
-page_count lines =
-    length-map-range_with_len (λ i. slice_index (line_in_page lines (i / LINE_BYTES)) (i % LINE_BYTES)) 0 bytes_of_page ∙ bytes_of_page_is
-
--- a byte by its line and its place there
-byte_at : (lines : List (List ℕ)) (i : ℕ) → i < 4096 → get_or (bytes_in_lines lines) i 0 ≡ get_or (line_in_page lines (i / 64)) (i % 64) 0
-unfolding bytes_in_lines
-byte_at lines i low =
-    get_or-map-range_with_len (λ i. slice_index (line_in_page lines (i / LINE_BYTES)) (i % LINE_BYTES)) 0 bytes_of_page i i 0
-    (omega (arith, low, bytes_of_page_is)) (omega arith)
+-- Parts of the lines of a page are parts of its bytes.
 
 byte_of : (lines : List (List ℕ)) (line at i : ℕ) → i ≡ 64 * line + at → at < 64 → line < 64
     → get_or (bytes_in_lines lines) i 0 ≡ get_or (line_in_page lines line) at 0
@@ -38,7 +22,7 @@ byte_of lines line at i is within low =
 pub line_part : (lines : List (List ℕ)) (line at n : ℕ) → length (line_in_page lines line) ≡ LINE_BYTES → line < PAGE_LINES → at + n ≤ LINE_BYTES
     → take n (drop at (line_in_page lines line)) ≡ take n (drop (LINE_BYTES * line + at) (bytes_in_lines lines))
 line_part lines line at n whole low fits =
-    let page = page_count lines in
+    let page = byte_count lines in
     let short = length-take-le n (drop at (line_in_page lines line)) (omega (arith, whole, fits, length-drop at (line_in_page lines line))) in
     let long = length-take-le n (drop (64 * line + at) (bytes_in_lines lines)) (omega (arith, page, low, fits, length-drop (64 * line + at) (bytes_in_lines lines))) in
     same_number_lists _ _ (short ∙ sym long) (λ k below.
@@ -53,8 +37,8 @@ pub line_written : (lines : List (List ℕ)) (line at : ℕ) (bytes : List ℕ) 
     → at + length bytes ≤ LINE_BYTES
     → bytes_in_lines (slice_set lines line (overwritten (line_in_page lines line) at bytes)) ≡ overwritten (bytes_in_lines lines) (LINE_BYTES * line + at) bytes
 line_written lines line at bytes all low whole fits =
-    same_number_lists _ _ (page_count new ∙ sym (count (bytes_in_lines lines) (64 * line + at) bytes room ∙ page))
-    (λ i below. by_line i (omega (arith, below, page_count new)) (cases_eq (i / 64) line))
+    same_number_lists _ _ (byte_count new ∙ sym (count (bytes_in_lines lines) (64 * line + at) bytes room ∙ page))
+    (λ i below. by_line i (omega (arith, below, byte_count new)) (cases_eq (i / 64) line))
   where
     old : List ℕ
     old = line_in_page lines line
@@ -63,7 +47,7 @@ line_written lines line at bytes all low whole fits =
     new = slice_set lines line (overwritten old at bytes)
 
     page : length (bytes_in_lines lines) ≡ 4096
-    page = page_count lines
+    page = byte_count lines
 
     room : 64 * line + at + length bytes ≤ length (bytes_in_lines lines)
     room = omega (arith, page, low, fits)

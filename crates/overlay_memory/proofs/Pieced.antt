@@ -18,7 +18,8 @@ use Rattle.overlay_pages.specs.declared.spots.FoundLine.{FoundLine}
 use Rattle.overlay_memory.specs.Access.{IsFoundIn, Reads}
 use Rattle.overlay_memory.specs.Pieces.{IsLacking, IsPermitted, Permits}
 use Rattle.overlay_memory.specs.StateMemory.{memory_at}
-use Rattle.overlay_memory.proofs.LineBytes.{line_part, page_count}
+use Rattle.overlay_pages.specs.LineLaws.{byte_count}
+use Rattle.overlay_memory.proofs.LineBytes.{line_part}
 use Rattle.overlay_memory.proofs.Views.{page_low}
 use Rattle.space_maps.specs.Spaces.{page_in}
 
@@ -90,7 +91,7 @@ read_piece v s q line at n address x bytes there is whole low fits place =
     let it : line_in_page x.lines line ≡ bytes = cc in
     ap (λ l. take n (drop at l)) (sym it)
     ∙ line_part x.lines line at n (ap length it ∙ whole) low fits
-    ∙ sym (bytes_in (memory_of v s) q address (64 * line + at) n (seen_page x) (seen_there v s q x there) (page_count x.lines) place (omega (arith, low, fits)))
+    ∙ sym (bytes_in (memory_of v s) q address (64 * line + at) n (seen_page x) (seen_there v s q x there) (byte_count x.lines) place (omega (arith, low, fits)))
 
 -- the same of a line that was found
 pub found_piece : (view : MemoryView) (address n : ℕ) (found : FoundLine) (bytes : List ℕ) → IsFoundIn view found.space address found

@@ -9,6 +9,7 @@ pub mod Access
 pub mod Fronts
 pub mod Pieces
 pub mod Rebased
+pub mod FoundLaws
 pub mod StateMemory
 pub mod PageLaws
 pub mod ApartLaws

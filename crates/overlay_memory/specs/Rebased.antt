@@ -12,7 +12,8 @@ use Rattle.overlay_pages.specs.Lines.{line_in_page}
 use Rattle.overlay_pages.specs.State.{PageState, State, base_of, books, memory_of}
 use Rattle.overlay_memory.specs.Access.{line_address}
 use Rattle.overlay_memory.specs.Pieces.{KeepsAllElse}
-use Rattle.overlay_memory.specs.View.{TranslatedView, state_of, translations_of}
+use Rattle.overlay_memory.specs.View.{NoneAwaits, TranslatedView, state_of, translations_of}
+use Rattle.space_maps.specs.Spaces.{space_in}
 use Rattle.translation_cache.specs.Translations.{flushed}
 
 -- Pages that are put on other pages.
@@ -58,6 +59,13 @@ pub record CanRebase (state : State) (space page from other : ℕ) : Type 0 wher
 pub record IsAloneAway (state : State) (space page from other : ℕ) : Type 0 where
   pub alone : is_alone (books state) space page ≡ true
   pub away : is_origin_here (books state) space from other ≡ false
+
+-- What is asked before their lines are compared: neither space is speculating, and no page of the first one awaits.
+pub record CanCompare (state : State) (space page from other : ℕ) : Type 0 where
+  pub settled : (space_in state space).speculating ≡ false
+  pub settled_from : (space_in state from).speculating ≡ false
+  pub none_awaits : NoneAwaits state space
+  pub apart : IsAloneAway state space page from other
 
 -- It was put there: no memory changed, and the ledger is the one after it. At least 8 units are free that weren't. The base of every
 -- other page stays, and so does all else.

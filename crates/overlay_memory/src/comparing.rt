@@ -1,6 +1,6 @@
 //! Pages that are compared line by line.
 
-ghost use Rattle.std.specs.Prelude.{◌≡◌, ◌<◌, ◌≤◌, IsSome, Some, length, true};
+ghost use Rattle.std.specs.Prelude.{◌≡◌, ◌<◌, ◌≤◌, Some, length, true};
 ghost use Rattle.sizes.specs.declared.TheConstants.{PAGE_LINES};
 ghost use Rattle.overlay_pages.specs.Lines.{line_in_page};
 ghost use Rattle.overlay_pages.specs.Spots.{IsFoundPage};
@@ -11,9 +11,7 @@ ghost use Rattle.space_maps.specs.Spaces.{page_in};
 
 use overlay_bits::Bits;
 use overlay_pages::{FoundPage, OverlayPages};
-
-/// How many lines a page has.
-const LINES: u8 = 64;
+use sizes::PAGE_LINES;
 
 /// Whether two pages that were found have the same bytes in a line.
 fn is_same_line(pages: &OverlayPages, page: &FoundPage, other: &FoundPage, line: u8) -> bool
@@ -31,8 +29,14 @@ fn is_same_line(pages: &OverlayPages, page: &FoundPage, other: &FoundPage, line:
     *pages.line_at(page.line(line)) == *pages.line_at(other.line(line))
 }
 
-/// As `lines_apart`, of pages that were found.
-fn lines_of_found(pages: &OverlayPages, page: &FoundPage, other: &FoundPage, most: u32) -> Bits
+/// Of pages that were found, the lines that are the other one's own, or in which they differ: all of them, or more than `most` where there
+/// are more.
+pub(crate) fn lines_apart(
+    pages: &OverlayPages,
+    page: &FoundPage,
+    other: &FoundPage,
+    most: u32,
+) -> Bits
     requires found { IsFoundPage pages.now.table page.now }
     requires theirs { IsFoundPage pages.now.table other.now }
     ensures apart { TellsApart (apart_in (state_of pages.now) page.now.space page.now.page
@@ -43,7 +47,7 @@ fn lines_of_found(pages: &OverlayPages, page: &FoundPage, other: &FoundPage, mos
 {
     let _count = other.own.len();
     let mut apart = other.own;
-    'comparing: for line in 0..LINES {
+    'comparing: for line in 0..PAGE_LINES as u8 {
         if !is_same_line(pages, page, other, line) {
             apart = apart.with(line);
             if apart.len() > most {
@@ -52,29 +56,4 @@ fn lines_of_found(pages: &OverlayPages, page: &FoundPage, other: &FoundPage, mos
         }
     }
     apart
-}
-
-/// The lines that are another page's own, or in which a page differs from it: all of them, or more than `most` where there are more.
-pub(crate) fn lines_apart(
-    pages: &OverlayPages,
-    space: u16,
-    page: u64,
-    from: u16,
-    other: u64,
-    most: u32,
-) -> Bits
-    requires there { IsSome (page_in (state_of pages.now) space page) }
-    requires theirs { IsSome (page_in (state_of pages.now) from other) }
-    ensures apart { TellsApart (apart_in (state_of pages.now) space page from other) most result }
-    ensures alike { length result ≤ most → (x y : PageState)
-        → page_in (state_of pages.now) space page ≡ Some x
-        → page_in (state_of pages.now) from other ≡ Some y → AreAlikeBut result x y }
-{
-    match pages.find_page(space, page) {
-        Some(found) => match pages.find_page(from, other) {
-            Some(theirs) => lines_of_found(pages, &found, &theirs, most),
-            None => unreachable!(),
-        },
-        None => unreachable!(),
-    }
 }

@@ -30,4 +30,5 @@ mod translating;
 
 pub use error::{MemoryError, Shortage, SpaceError};
 pub use memory::OverlayMemory;
+pub use overlay_pages::{FoundPage, LARGE_LINES, MOST_OWN};
 pub use space_ledger::class_of;

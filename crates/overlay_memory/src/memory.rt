@@ -3,7 +3,7 @@
 ghost use Rattle.std.specs.Prelude.{◌≡◌, ◌≢◌, ℕ, ◌+◌, ◌*◌, ◌<◌, ◌≤◌, List, IfOk, IfSome, IsSome, OnOk, OnErr, None, true, false, length};
 ghost use Rattle.std.specs.Borrow.{Lends, sem, Array, u8 as byte};
 ghost use Rattle.std.specs.FinMap as map;
-ghost use Rattle.std.specs.Option.{option_map};
+ghost use Rattle.std.specs.Option.{is_some, option_map};
 ghost use Rattle.sizes.specs.declared.TheConstants.{LAST_SPACE, LINE_BYTES, MOST_FRAMES, MOST_SPACE_PAGES, MOST_UNITS, PAGE_BYTES, PAGE_END, PAGE_LINES};
 ghost use Rattle.ovl_io.specs.Memory.{bytes_at};
 ghost use Rattle.ovl_io.specs.Permissions.{writable};
@@ -16,19 +16,21 @@ ghost use Rattle.space_ledger.specs.Calls.{IsNextOwn, NamesOnce};
 ghost use Rattle.overlay_pages.specs.Lines.{line_in_page};
 ghost use Rattle.overlay_pages.specs.State.{books, memory_of};
 ghost use Rattle.overlay_pages.specs.Changes.{AreAbsent, Fits, HasCopyRoom, HasShareRoom, IsPlaced, committed, copied, discarded, frame_but_zero, is_writable, limit_of, units_of, with_shared, with_written, with_zeros};
+ghost use Rattle.overlay_pages.specs.Spots.{IsFoundPage, IsFoundPageAt};
 ghost use Rattle.overlay_pages.specs.View.{HasOwnPlace, IsJoined, place_at};
 ghost use Rattle.overlay_pages.specs.Calls.{AreMapped, AreShared, AreZeros, AwaitBare, AwaitsLike, HasSettledBlocks, IsEmptyState, IsNextPage, KeepsWholeBlocks, MovesFewBeside, NoneAwaitsBelow, entries_in};
 ghost use Rattle.overlay_memory.specs.ApartLaws.{ArePagesApart};
 ghost use Rattle.overlay_memory.specs.Access.{FitsStored, IsFirstAbsent, IsStored, Places, Reads, Stores, line_address};
 ghost use Rattle.overlay_memory.specs.Code.{IsCodeLine};
 ghost use Rattle.overlay_memory.specs.Pieces.{emptied_space};
-ghost use Rattle.overlay_memory.specs.Rebased.{CanRebase, HasRebased, IsAloneAway, RebasesAlike};
+ghost use Rattle.overlay_memory.specs.Rebased.{CanCompare, CanRebase, HasRebased, RebasesAlike};
 ghost use Rattle.overlay_memory.specs.Room.{FallsShort};
 ghost use Rattle.overlay_memory.specs.Translated.{access_at, after_access};
 ghost use Rattle.overlay_memory.specs.View.{AreOverlaysSmall, AreTrue, NoneAwaits, state_of, translations_of, with_region_line};
 ghost use Rattle.translation_cache.specs.Bare.{bare};
 ghost use Rattle.translation_cache.specs.Formed.{IsFormed};
 ghost use Rattle.translation_cache.specs.Translations.{flushed, no_translations, with_hits};
+ghost use Rattle.overlay_pages.specs.declared.settling.TheConstants.{MOST_OWN};
 ghost use Rattle.overlay_memory.specs.contracts.memory.OverlayMemory.{the_row};
 
 use crate::comparing::lines_apart;
@@ -41,16 +43,13 @@ use crate::storing::{put_line, store_line, write_pages};
 use crate::translating::translate_access;
 use bitflags::Flags;
 use overlay_bits::Bits;
-use overlay_pages::OverlayPages;
+use overlay_pages::{FoundPage, MOST_OWN, OverlayPages};
 use ovl_io::Perms;
 use page_table::PageTable;
-use sizes::{FRAME_UNITS, PAGE_BYTES};
+use sizes::{FRAME_UNITS, PAGE_BYTES, PAGE_LINES};
 use std::alloc::{AllocError, Global};
 use std::marker::Model;
 use translation_cache::Cache;
-
-/// The most own lines of a page in a space that isn't speculating.
-const MOST_OWN: u32 = 31;
 
 /// The memories of all spaces. Spaces are numbered from 1 to 32,767, pages are below 2^26. A space that a call names is there,
 /// and no page of it awaits `share_page`, where the call doesn't say otherwise.
@@ -400,6 +399,27 @@ impl OverlayMemory {
         self.pages.frame_of(space, page)
     }
 
+    /// A page that is there, with all that `rebase_found` has to know. Costs a look-up of the page, and one of its overlay.
+    pub fn find_page(&self, space: u16, page: u64) -> FoundPage
+        requires there { IsSome (page_in (state_of self.now) space page) }
+        ensures found { IsFoundPageAt self.now.pages space page result }
+    {
+        match self.pages.find_page(space, page) {
+            Some(found) => found,
+            None => unreachable!(),
+        }
+    }
+
+    /// The number of the frame of a page that was found. None exactly where it is on the zero frame. Costs a step.
+    pub fn frame_of_found(&self, page: &FoundPage) -> Option<u32>
+        requires { IsFoundPage self.now.pages.table page.now }
+        ensures frame { option_map (λ x. frame_but_zero (state_of self.now).zero_frame x.entry.frame)
+            (page_in (state_of self.now) page.now.space page.now.page) ≡ Some result }
+        ensures low { IfSome result (λ frame. frame < MOST_FRAMES) }
+    {
+        self.pages.frame_of_found(page)
+    }
+
     /// The permissions of a page that is there. Costs a look-up.
     pub fn perms_of(&self, space: u16, page: u64) -> Perms
         requires there { IsSome (page_in (state_of self.now) space page) }
@@ -481,38 +501,33 @@ impl OverlayMemory {
         ensures rebased { HasRebased (state_of self.old) (state_of self.new) space page from other }
         ensures translations { translations_of self.new ≡ flushed space (translations_of self.old) }
     {
-        match self.rebase_if_alike(space, page, from, other, 64) {
+        let found = self.find_page(space, page);
+        let theirs = self.find_page(from, other);
+        match self.rebase_found(&found, &theirs, PAGE_LINES as u32) {
             None => {}
             Some(_) => unreachable!(),
         }
     }
 
-    /// As `rebase_page`, where it isn't known how many lines are apart: None where it is done. Else how many they are, which are more than
-    /// 31; of more than `most`, at least 31, it may tell fewer, and more than `most`. The comparison ends there.
-    pub fn rebase_if_alike(
-        &mut self,
-        space: u16,
-        page: u64,
-        from: u16,
-        other: u64,
-        most: u32,
-    ) -> Option<u32>
-        requires there { IsSome (page_in (state_of self.old) space page) }
-        requires theirs { IsSome (page_in (state_of self.old) from other) }
-        requires settled { (space_in (state_of self.old) space).speculating ≡ false }
-        requires settled_from { (space_in (state_of self.old) from).speculating ≡ false }
-        requires none_awaits { NoneAwaits (state_of self.old) space }
-        requires apart { IsAloneAway (state_of self.old) space page from other }
-        requires most { 31 ≤ most }
-        ensures { RebasesAlike self.old self.new space page from other most result }
+    /// As `rebase_page`, of pages that were found, where it isn't known how many lines are apart: None where it is done. Else how many they
+    /// are, which are more than 31; of more than `most`, at least 31, it may tell fewer, and more than `most`. The comparison ends there.
+    /// Looks no page up.
+    pub fn rebase_found(&mut self, page: &FoundPage, theirs: &FoundPage, most: u32) -> Option<u32>
+        requires found { IsFoundPage self.old.pages.table page.now }
+        requires theirs { IsFoundPage self.old.pages.table theirs.now }
+        requires asked { CanCompare (state_of self.old) page.now.space page.now.page
+            theirs.now.space theirs.now.page }
+        requires most { MOST_OWN ≤ most }
+        ensures { RebasesAlike self.old self.new page.now.space page.now.page
+            theirs.now.space theirs.now.page most result }
     {
-        let lines = lines_apart(&self.pages, space, page, from, other, most);
+        let lines = lines_apart(&self.pages, page, theirs, most);
         if lines.len() > MOST_OWN {
             return Some(lines.len());
         }
         self.fronts.clear();
-        self.pages.rebase_page(space, page, from, other, lines);
-        self.cache.flush(space);
+        self.pages.rebase_found(page, theirs, lines);
+        self.cache.flush(page.space);
         None
     }
 
@@ -634,6 +649,16 @@ impl OverlayMemory {
         ensures low { 0 < result → page + result ≤ PAGE_END }
     {
         self.pages.zeros_from(space, page)
+    }
+
+    /// Whether a page is there. Costs a look-up.
+    pub fn has_page(&self, space: u16, page: u64) -> bool
+        ensures there { result ≡ is_some (page_in (state_of self.now) space page) }
+    {
+        match self.pages.next_page(space, page) {
+            Some(found) => found == page,
+            None => false,
+        }
     }
 
     /// The least page of a space not below one that has own lines. None exactly where none has. Costs a look-up.

@@ -6,7 +6,7 @@ ghost use Rattle.ovl_io.specs.Permissions.{permits, writable};
 ghost use Rattle.overlay_pages.specs.Changes.{is_writable};
 ghost use Rattle.overlay_pages.specs.State.{memory_of};
 ghost use Rattle.overlay_pages.specs.View.{IsJoined, state_of};
-ghost use Rattle.overlay_pages.specs.Spots.{IsFound, IsFoundPageAt};
+ghost use Rattle.overlay_pages.specs.Spots.{IsFound, IsFoundPage, IsFoundPageAt};
 ghost use Rattle.overlay_memory.specs.Access.{FitsStored, IsStored, Stores, line_address};
 ghost use Rattle.overlay_memory.specs.Fronts.{AreFronts};
 ghost use Rattle.overlay_memory.specs.Pieces.{AreWritable, IsFilled, Permits, lines_under, result_at};
@@ -79,27 +79,80 @@ fn fill_line(pages: &mut OverlayPages, space: u16, page: u64, line: u8, at: usiz
     }
 }
 
-/// Replaces bytes of a page that is there, where the lines in which they lie can be written.
-fn fill_page(pages: &mut OverlayPages, space: u16, page: u64, at: usize, bytes: &[u8])
-    requires there { IsSome (page_in (state_of pages.old) space page) }
+/// Replaces some bytes of a line of a page that was found, where the line can be written.
+fn fill_found(pages: &mut OverlayPages, page: &FoundPage, line: u8, at: usize, bytes: &[u8])
+    requires found { IsFoundPage pages.old.table page.now }
+    requires line { line < PAGE_LINES }
+    requires some { 0 < length bytes.now }
+    requires fits { at + length bytes.now ≤ LINE_BYTES }
+    requires writable { is_writable (state_of pages.old) page.now.space page.now.page line ≡ true }
+    ensures filled { IsFilled (state_of pages.old) (state_of pages.new) page.now.space
+        (PAGE_BYTES * page.now.page + (LINE_BYTES * line + at)) bytes.now }
+    ensures table { pages.new.table ≡ pages.old.table }
+{
+    put(pages, page.line(line), at, bytes);
+}
+
+/// Replaces bytes of a page that was found, where the lines in which they lie can be written.
+fn fill_page(pages: &mut OverlayPages, page: &FoundPage, at: usize, bytes: &[u8])
+    requires found { IsFoundPage pages.old.table page.now }
     requires one_page { at + length bytes.now ≤ PAGE_BYTES }
-    requires writable { AreWritable (state_of pages.old) space page at (length bytes.now) }
-    ensures { IsFilled (state_of pages.old) (state_of pages.new) space
-        (PAGE_BYTES * page + at) bytes.now }
+    requires writable { AreWritable (state_of pages.old) page.now.space page.now.page at (length bytes.now) }
+    ensures filled { IsFilled (state_of pages.old) (state_of pages.new) page.now.space
+        (PAGE_BYTES * page.now.page + at) bytes.now }
+    ensures table { pages.new.table ≡ pages.old.table }
 {
     let mut done = 0;
     'filling: while done < bytes.len() {
         let line = ((at + done) / LINE_BYTES) as u8;
         let from = (at + done) % LINE_BYTES;
         let n = (LINE_BYTES - from).min(bytes.len() - done);
-        fill_line(pages, space, page, line, from, &bytes[done..done + n]);
+        fill_found(pages, page, line, from, &bytes[done..done + n]);
         done += n;
     }
 }
 
-/// Puts bytes, some and all in one page that is there, whatever its permissions: first the lines in which they lie are made such as can
+/// Puts bytes, some and all in one page that was found, whatever its permissions: first the lines in which they lie are made such as can
 /// be written where they stand, then the bytes are put, and then the page is settled where it has to be. A page that has own lines is
 /// settled before that, so that they aren't moved twice. The units after it are there.
+fn put_in_found(
+    pages: &mut OverlayPages,
+    cache: &mut Cache,
+    space: u16,
+    page: &FoundPage,
+    address: u64,
+    lines: Bits,
+    bytes: &[u8],
+)
+    requires found { IsFoundPageAt pages.old space (address / PAGE_BYTES) page.now }
+    requires some { 0 < length bytes.now }
+    requires one_page { address % PAGE_BYTES + length bytes.now ≤ PAGE_BYTES }
+    requires under { lines ≡ lines_under (address % PAGE_BYTES) (length bytes.now) }
+    requires fits { FitsStored (state_of pages.old) space address (length bytes.now) }
+    requires none_awaits { NoneAwaits (state_of pages.old) space }
+    requires held { AreTrue (state_of pages.old) cache.old }
+    ensures stored { IsStored (state_of pages.old) (state_of pages.new) space address bytes.now }
+    ensures held { AreTrue (state_of pages.new) cache.new }
+    ensures lists { bare cache.new ≡ bare cache.old }
+{
+    let at = (address % PAGE_BYTES as u64) as usize;
+    if comes_to_be_large(pages, page, lines) {
+        let settled = settle(pages, cache, page);
+        fill_page(pages, &settled, at, bytes);
+        return;
+    }
+    let number = address / PAGE_BYTES as u64;
+    bring_lines(pages, cache, space, number, lines);
+    match pages.find_page(space, number) {
+        Some(brought) => {
+            fill_page(pages, &brought, at, bytes);
+            settle_if_large(pages, cache, &brought);
+        }
+        None => unreachable!(),
+    }
+}
+
+/// As `put_in_found`, of a page that is there.
 fn put_in_page(
     pages: &mut OverlayPages,
     cache: &mut Cache,
@@ -119,16 +172,10 @@ fn put_in_page(
     ensures held { AreTrue (state_of pages.new) cache.new }
     ensures lists { bare cache.new ≡ bare cache.old }
 {
-    let page = address / PAGE_BYTES as u64;
-    let at = (address % PAGE_BYTES as u64) as usize;
-    if comes_to_be_large(pages, space, page, lines) {
-        settle(pages, cache, space, page);
-        fill_page(pages, space, page, at, bytes);
-        return;
+    match pages.find_page(space, address / PAGE_BYTES as u64) {
+        Some(page) => put_in_found(pages, cache, space, &page, address, lines, bytes),
+        None => unreachable!(),
     }
-    bring_lines(pages, cache, space, page, lines);
-    fill_page(pages, space, page, at, bytes);
-    settle_if_large(pages, cache, space, page);
 }
 
 /// A line of a page that is there becomes these bytes, as by a store of them, whatever the permissions. The units after it are there.
@@ -300,7 +347,7 @@ fn store_brought(
     if !stays_overlay(pages, space, page.own) {
         fronts.clear();
         let lines = lines_at((address % PAGE_BYTES as u64) as usize, bytes.len());
-        put_in_page(pages, cache, space, address, lines, bytes);
+        put_in_found(pages, cache, space, &page, address, lines, bytes);
         return Came::Done;
     }
     let number = address / PAGE_BYTES as u64;

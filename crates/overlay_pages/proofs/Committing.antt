@@ -1,6 +1,7 @@
-use Rattle.overlay_pages.proofs.Common.{option_map, ◌≡◌, ℕ, ◌+◌, ◌<◌, ◌≤◌, true, false, cond, List, [], Some, None, IfSome, IsSome, refl, sym, ap, subst, ◌∙◌, arith, same_Some, empty}
+use Rattle.overlay_pages.proofs.Common.{option_map, ◌≡◌, ℕ, ◌+◌, ◌<◌, ◌≤◌, true, false, cond, List, [], Some, None, IfSome, IsSome, is_some, refl, sym, ap, subst, ◌∙◌, arith, same_Some, empty}
 use Rattle.overlay_pages.proofs.Stores.{has_line, Entry, FillsFrame, Store, composed_line, frame_line, line_in, scratch_line, KeepsFrames}
-use Rattle.overlay_pages.proofs.Books.{Ledger, has_origin, holding_at, is_alone, put_again, class_none, origin_with, books_page, books_put_page, keeps_page_put, page_over, page_put_here, there_space, page_in, put_page, space_in, altered_page, LedgerView, PageView, ledger_of, lines_of, overlay_at, changed_there, alone_same}
+use Rattle.page_table.specs.declared.entry.PageEntry.{PageEntry}
+use Rattle.overlay_pages.proofs.Books.{Ledger, has_origin, holding_at, is_alone, put_again, class_none, origin_with, books_page, books_put_page, keeps_page_put, page_over, page_put_here, map_some, there_space, page_in, put_page, space_in, altered_page, LedgerView, PageView, frame_at, ledger_of, lines_of, overlay_at, changed_there, alone_same}
 use Rattle.overlay_pages.proofs.Views.{page_lines, lines_same, PageState, State, books, held_page, HasCopyRoom, IsNewFrame, IsPlaced, committed, copied, discarded, limit_of, moved_to, units_of, IsJoined, MemoryView, line_seen, page_state, state_of, view_of, state_awaiting, state_books, state_holds, state_page_there}
 use Rattle.overlay_pages.proofs.Steps.{alone_other, rewritten, seen_bare, composed_seen, seen_overlaid}
 use Rattle.overlay_pages.proofs.Joining.{Has, page_with, altered_still}
@@ -39,6 +40,13 @@ commits a b c s p x there b_is same c_is =
 
 pub page_frame : (v : LedgerView) (s p : ℕ) (x : PageView) (frame : ℕ) → page_in v s p ≡ Some x → option_map (λ (y : PageView). y.entry.frame) (page_in v s p) ≡ Some frame → x.entry.frame ≡ frame
 page_frame v s p x frame there framed = same_Some _ _ (sym (ap (option_map (λ (y : PageView). y.entry.frame)) there) ∙ framed)
+
+-- a page whose frame, or entry, is known is there
+pub frame_some : (v : LedgerView) (s p frame : ℕ) → frame_at v s p ≡ Some frame → IsSome (page_in v s p)
+frame_some v s p frame is = sym (map_some (λ (x : PageView). x.entry.frame) (page_in v s p)) ∙ ap is_some is
+
+pub entry_some : (v : LedgerView) (s p : ℕ) (e : PageEntry) → Some e ≡ option_map (λ (x : PageView). x.entry) (page_in v s p) → IsSome (page_in v s p)
+entry_some v s p e is = sym (map_some (λ (x : PageView). x.entry) (page_in v s p)) ∙ ap is_some (sym is)
 
 -- A page that is copied: its overlay ends, and it gets a frame with its lines.
 

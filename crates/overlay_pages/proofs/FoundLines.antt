@@ -1,7 +1,9 @@
 use Rattle.overlay_pages.proofs.Common.{option_map, ◌≡◌, ℕ, ◌+◌, ◌-◌, ◌<◌, ◌≤◌, Bool, true, false, ◌||◌, ◌&&◌, not, cond, List, [], ◌∷◌, Option, Some, None, IsSome, is_some, length, refl, sym, ap, subst, ◌∙◌, arith, option_and_then, PAGE_LINES}
-use Rattle.overlay_pages.proofs.Stores.{AreLines, has_line, with_line, count_with, Entry, Store}
+use Rattle.sizes.specs.declared.TheConstants.{MOST_FRAMES}
+use Rattle.overlay_pages.proofs.Stores.{AreLines, has_line, with_line, count_with, Entry, Store, frame_inside}
 use Rattle.overlay_pages.proofs.Books.{by_option, class, class_le, class_most, with_lines, put_same, is_alone, KeepsSpaces, books_put_page, books_there, changed_there, keeps_page_put, there_space, page_put_here, page_put_beside, page_in, put_page, space_in, altered_page, LedgerView, PageView, frame_at, holding_of, ledger_of, lines_of, overlay_at, with_overlay}
-use Rattle.overlay_pages.proofs.Views.{FoundPage, Fits, State, view_of, brought, is_writable, units_of, with_brought, IsBroughtTo, IsFoundPage, IsJoined, MemoryView, page_state, state_of, state_page_there}
+use Rattle.overlay_pages.proofs.Views.{FoundPage, Fits, PageState, State, books, view_of, brought, is_writable, units_of, with_brought, IsBroughtTo, IsFoundPage, IsJoined, MemoryView, page_state, state_books, state_mark, state_of, state_page_there, state_zero}
+use Rattle.overlay_pages.specs.Changes.{frame_but_zero}
 use Rattle.ledger.specs.AloneLaws.{alone_same}
 use Rattle.overlay_pages.proofs.Bringing.{one_more}
 use Rattle.overlay_pages.proofs.Growing.{altered_units}
@@ -26,12 +28,32 @@ found_there table found is = ap is_some is.there
 pub found_frame : (table : LedgerView) (found : FoundPage) → IsFoundPage table found → frame_at table found.space found.page ≡ Some found.frame
 found_frame table found is = ap (option_map (λ (y : PageView). y.entry.frame)) is.there ∙ ap Some is.frame
 
+pub found_entry : (table : LedgerView) (found : FoundPage) → IsFoundPage table found
+    → Some (record { perms = found.perms; frame = found.frame }) ≡ option_map (λ (x : PageView). x.entry) (page_in table found.space found.page)
+found_entry table found is = sym (ap (option_map (λ (y : PageView). y.entry)) is.there ∙ (λ i. Some (record { perms = is.perms i; frame = is.frame i })))
+
 module _ (v : MemoryView) (found : FoundPage) (is : IsFoundPage v.table found) where
   at : overlay_at v.table found.space found.page ≡ is.x.overlay
   at = ap (option_and_then (λ (y : PageView). y.overlay)) is.there
 
   pub found_own : (o : Option Entry) → overlay_at v.table found.space found.page ≡ o → lines_of o ≡ found.own
   found_own o over = ap lines_of (sym over ∙ at) ∙ is.own
+
+  -- whether it is alone, and its frame
+  pub found_alone : (space_in (state_of v) found.space).speculating ≡ false → found.in_frame ≡ is_alone (books (state_of v)) found.space found.page
+  found_alone settled =
+      is.in_frame ∙ ap (λ b. not b && is_alone (ledger_of v.table) found.space found.page) (sym (state_mark v found.space) ∙ settled)
+      ∙ ap (λ l. is_alone l found.space found.page) (sym (state_books v))
+
+  pub found_but_zero : (z : ℕ) → z ≡ v.table.zero_frame
+      → option_map (λ (x : PageState). frame_but_zero (state_of v).zero_frame x.entry.frame) (page_in (state_of v) found.space found.page) ≡ Some (frame_but_zero z found.frame)
+  unfolding page_state
+  found_but_zero z zero_is =
+      ap (option_map (λ (x : PageState). frame_but_zero (state_of v).zero_frame x.entry.frame)) (state_page_there v found.space found.page is.x is.there)
+      ∙ (λ i. Some (frame_but_zero ((state_zero v ∙ sym zero_is) i) (is.frame i)))
+
+  pub found_few : IsJoined v → found.frame < MOST_FRAMES
+  found_few joined = omega (arith, frame_inside v.store joined.store is.x.entry.frame (joined.held found.space found.page is.x is.there).frame, joined.store.pieces.few, is.frame)
 
   -- its overlay: none where it has no own lines
   pub found_bare : (n : ℕ) → n ≡ length found.own → n ≡ 0 → IsJoined v → overlay_at v.table found.space found.page ≡ None

@@ -1,7 +1,7 @@
 use Rattle.overlay_pages.proofs.Common.{◌≡◌, ℕ, ◌+◌, ◌^◌, ◌<◌, ◌≤◌, ◌||◌, ◌++◌, ◌∷◌, Bool, true, false, cond, nat_eq, List, [], Option, Some, None, length, refl, true≢false, sym, ap, subst, ◌∙◌, arith, none-some, nat_tests, get_or}
 use Rattle.overlay_pages.proofs.Stores.{AreSettled, HasRoom, free_units, units_in, Block, AreLines, has_line, has_append, with_line, overlay_page, Entry, IsStore, capacity_of, Store, IsSegment, frame_line, line_in, lines_at, lines_with, BeginsSegment, HasLinesNow, Inserts, KeepsFrames, KeepsOtherSegments, lines_there, refilled}
 use Rattle.overlay_pages.proofs.Books.{class, class_none, by_test, altered_page, LedgerView, PageView, lines_of, with_overlay}
-use Rattle.overlay_pages.proofs.Views.{page_lines, line_at, lines_same, line_in_page, given_page, limit_of, units_of, IsJoined, IsLaid, MemoryView, line_seen, page_state, state_of, view_of, state_page_there}
+use Rattle.overlay_pages.proofs.Views.{page_lines, line_at, lines_same, line_in_page, by_rank, given_page, limit_of, units_of, IsJoined, IsLaid, MemoryView, line_seen, page_state, state_of, view_of, state_page_there}
 use Rattle.overlay_bits.specs.Laws.{front_lacks, next_inside, with_next}
 use Rattle.std.proofs.Common.{append_assoc}
 use Rattle.std.proofs.lemmas.List.{append-nil, length-append}
@@ -9,21 +9,24 @@ use Rattle.overlay_pages.proofs.Steps.{seen_bare, seen_inside, seen_outside}
 use Rattle.overlay_pages.proofs.Overlaying.{overlays, segments_some}
 use Rattle.overlay_pages.proofs.Joining.{Has, altered_still, frames_twice, others_twice, segment_beside, unit_low}
 use Rattle.overlay_pages.proofs.Growing.{free_is, has_room}
+use Rattle.overlay_pages.proofs.Kept.{by_place_of}
 
 -- An overlay of lines that are given.
 
 -- So far: the segment has the first of them.
-pub record IsFilling (first now : Store) (owner : ℕ) (block : Block) (bits rest : List ℕ) (given : ℕ → List ℕ) : Type 0 where
+pub record IsFilling (first now : Store) (owner : ℕ) (block : Block) (bits rest : List ℕ) (at : ℕ) (given : ℕ → List ℕ) : Type 0 where
   pub done : List ℕ
   pub cut : bits ≡ done ++ rest
+  pub at_is : at ≡ length done
   pub are : AreLines bits
   pub laid : IsLaid first now owner block done given
 
 pub none_filled : (old began : Store) (owner order : ℕ) (block : Block) (bits rest : List ℕ) (given : ℕ → List ℕ) → AreLines bits → rest ≡ bits → BeginsSegment old began owner order [] block
-    → IsFilling old began owner block bits rest given
+    → IsFilling old began owner block bits rest 0 given
 none_filled old began owner order block bits rest given are same b = record {
   done = [];
   cut = sym same;
+  at_is = refl;
   are = are;
   laid = record {
     fresh = b.fresh;
@@ -39,7 +42,7 @@ none_filled old began owner order block bits rest given are same b = record {
   };
 }
 
-module _ (first now : Store) (owner : ℕ) (block : Block) (bits rest : List ℕ) (given : ℕ → List ℕ) (so : IsFilling first now owner block bits rest given) where
+module _ (first now : Store) (owner : ℕ) (block : Block) (bits rest : List ℕ) (at : ℕ) (given : ℕ → List ℕ) (so : IsFilling first now owner block bits rest at given) where
   pub all_filled : rest ≡ [] → IsLaid first now owner block bits given
   all_filled none = subst (λ l. IsLaid first now owner block l given) (sym (so.cut ∙ ap (λ l. so.done ++ l) none ∙ append-nil so.done)) so.laid
 
@@ -53,6 +56,13 @@ module _ (first now : Store) (owner : ℕ) (block : Block) (bits rest : List ℕ
     pub fill_there : IsSegment now block
     fill_there = record { segment = record { owner = owner; order = block.order; bits = so.done }; there = so.laid.there; order = refl }
 
+    pub fill_fits_kept : (most : ℕ) → length bits ≤ most → at < most
+    fill_fits_kept most few = omega (arith, few, so.at_is, ap length (so.cut ∙ ap (λ l. so.done ++ l) steps), length-append so.done (line ∷ more))
+
+    -- its place among those that were kept
+    pub fill_given : (kept : List (List ℕ)) → line_in_page kept at ≡ by_rank bits kept line
+    fill_given kept = ap (line_in_page kept) so.at_is ∙ by_place_of bits so.done line more kept so.are (so.cut ∙ ap (λ l. so.done ++ l) steps)
+
     pub fill_low : line < 64
     fill_low = next_inside so.done line more are_cut
 
@@ -63,10 +73,11 @@ module _ (first now : Store) (owner : ℕ) (block : Block) (bits rest : List ℕ
     fill_fits fits = omega (arith, fits, ap length set_is, ap length (so.cut ∙ ap (λ l. so.done ++ l) steps), length-append so.done (line ∷ more))
 
     pub one_filled : (new : Store) (bytes : List ℕ) → bytes ≡ given line → Inserts now new block line bytes → HasLinesNow now new block (lines_with now block line)
-        → KeepsOtherSegments now block.unit new → KeepsFrames now new → IsStore new → IsFilling first new owner block bits more given
+        → KeepsOtherSegments now block.unit new → KeepsFrames now new → IsStore new → IsFilling first new owner block bits more (at + 1) given
     one_filled new bytes bytes_is inserts lines kept frames store = record {
       done = so.done ++ line ∷ [];
       cut = so.cut ∙ ap (λ l. so.done ++ l) steps ∙ sym (append_assoc so.done (line ∷ []) more);
+      at_is = omega (arith, so.at_is, length-append so.done (line ∷ []));
       are = so.are;
       laid = record {
         fresh = so.laid.fresh;
@@ -97,8 +108,8 @@ module _ (first now : Store) (owner : ℕ) (block : Block) (bits rest : List ℕ
             let one = last (nat_eq line i) (sym (ap (λ b. b || has_line (line ∷ []) i) lacks) ∙ has) in grind (arith, nat_tests)
 
 -- A page gets it.
-module _ (old : MemoryView) (store : Store) (table : LedgerView) (s p : ℕ) (block : Block) (bits : List ℕ) (given : List (List ℕ)) (is : IsJoined old) (has : Has old.table s p None)
-    (some : 0 < length bits) (size : 2 ^ block.order ≡ class (length bits)) (so : IsLaid old.store store (overlay_page s p) block bits (line_in_page given))
+module _ (old : MemoryView) (store : Store) (table : LedgerView) (s p : ℕ) (block : Block) (bits : List ℕ) (given : ℕ → List ℕ) (is : IsJoined old) (has : Has old.table s p None)
+    (some : 0 < length bits) (size : 2 ^ block.order ≡ class (length bits)) (so : IsLaid old.store store (overlay_page s p) block bits given)
     (table_is : table ≡ with_overlay old.table s p (Some (record { bits = bits; block = block }))) where
   abbrev overlay : Entry
   overlay = record { bits = bits; block = block }
@@ -106,13 +117,13 @@ module _ (old : MemoryView) (store : Store) (table : LedgerView) (s p : ℕ) (bl
   abbrev page : PageView
   page = record { entry = has.x.entry; overlay = Some overlay }
 
-  each : (i : ℕ) → i < 64 → line_seen store page i ≡ cond (has_line bits i) (line_in_page given i) (line_in_page (page_lines (frame_line old.store has.x.entry.frame)) i)
+  each : (i : ℕ) → i < 64 → line_seen store page i ≡ cond (has_line bits i) (given i) (line_in_page (page_lines (frame_line old.store has.x.entry.frame)) i)
   each i low = by_test (has_line bits i)
       (λ own. seen_inside store page overlay i refl own ∙ so.lines i low own
-      ∙ sym (ap (λ b. cond b (line_in_page given i) (line_in_page (page_lines (frame_line old.store has.x.entry.frame)) i)) own))
+      ∙ sym (ap (λ b. cond b (given i) (line_in_page (page_lines (frame_line old.store has.x.entry.frame)) i)) own))
       (λ lacks. seen_outside store page i lacks ∙ (so.frames has.x.entry.frame (is.held s p has.x has.there).frame).lines i low
       ∙ sym (line_at (frame_line old.store has.x.entry.frame) i low)
-      ∙ sym (ap (λ b. cond b (line_in_page given i) (line_in_page (page_lines (frame_line old.store has.x.entry.frame)) i)) lacks))
+      ∙ sym (ap (λ b. cond b (given i) (line_in_page (page_lines (frame_line old.store has.x.entry.frame)) i)) lacks))
 
   page_given : page_state store page ≡ given_page bits given (page_state old.store has.x)
   unfolding page_state
@@ -133,7 +144,7 @@ module _ (old : MemoryView) (store : Store) (table : LedgerView) (s p : ℕ) (bl
       }) (given_page bits given) page_given
 
 -- none are given
-pub none_given : (v : MemoryView) (s p : ℕ) (given : List (List ℕ)) → Has v.table s p None → state_of v ≡ altered_page (given_page [] given) (state_of v) s p
+pub none_given : (v : MemoryView) (s p : ℕ) (given : ℕ → List ℕ) → Has v.table s p None → state_of v ≡ altered_page (given_page [] given) (state_of v) s p
 unfolding page_state
 none_given v s p given has =
     let lines = lines_same (λ i. line_in_page (page_lines (frame_line v.store has.x.entry.frame)) i) (frame_line v.store has.x.entry.frame) (λ i low. line_at (frame_line v.store has.x.entry.frame) i low)

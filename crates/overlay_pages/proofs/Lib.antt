@@ -26,8 +26,10 @@ pub mod Adding
 pub mod Committing
 pub mod SharedPages
 pub mod SharedRuns
+pub mod Kept
 pub mod GivenLines
 pub mod Rebased
+pub mod Copying
 pub mod OwnPlaces
 pub mod Laws
 pub mod Needs

@@ -1,14 +1,12 @@
-use Rattle.overlay_pages.proofs.Common.{◌≡◌, ℕ, ◌+◌, ◌*◌, ◌<◌, ◌≤◌, ◌||◌, true, false, cond, nat_eq, List, [], Option, Some, None, IfSome, IsSome, is_some, length, drop, refl, true≢false, sym, ap, subst, ◌∙◌, arith, inl, inr, none-some, same_Some, nat_tests, option_and_then, option_map, empty}
-use Rattle.std.proofs.lemmas.List.{get_or-drop, get_or-take}
-use Rattle.overlay_bits.specs.Composed.{composed, composed_at}
-use Rattle.segment_store.specs.Store.{frame_page, scratch_page}
-use Rattle.overlay_pages.proofs.Stores.{Entry, Store, IsFrame, units_in, frame_inside, frame_line, KeepsFrame, has_line}
-use Rattle.overlay_pages.proofs.Books.{Ledger, has_origin, holding_at, is_alone, is_unused, with_page, without_page, class, class_most, units, class_none, frame_for, units_changed, alone_is, alone_same, are, by_place, by_test, not_true, origin_with, unused_from, unused_parts, books_put_page, books_there, changed_there, keeps_page_put, keeps_page_set, KeepsSpaces, map_from, map_some, page_put_here, page_put_beside, page_over, set_some, there_space, page_in, put_page, set_page, space_in, altered_page, LedgerView, PageView, given_as, given_up, holding_of, ledger_of, lines_of, overlay_at, origin_of, with_frame}
-use Rattle.overlay_pages.proofs.Views.{page_lines, line_at, lines_same, line_in_page, PageState, State, IsAway, IsRebased, SeesFrame, books, held_page, committed, frame_in, given_page, limit_of, moved_to, rebased_page, units_of, IsJoined, MemoryView, line_seen, page_state, state_of, view_of, state_awaiting, state_books, state_page, state_page_some, state_page_there, state_zero}
+use Rattle.overlay_pages.proofs.Common.{◌≡◌, ℕ, ◌+◌, ◌<◌, ◌≤◌, ◌||◌, true, false, cond, nat_eq, List, [], Option, Some, None, IfSome, IsSome, is_some, length, refl, true≢false, sym, ap, subst, ◌∙◌, arith, inl, inr, none-some, same_Some, nat_tests, option_and_then, option_map, empty}
+use Rattle.overlay_pages.proofs.Stores.{Entry, Store, IsFrame, frame_inside, frame_line, KeepsFrame, has_line}
+use Rattle.page_table.specs.declared.entry.PageEntry.{PageEntry}
+use Rattle.overlay_pages.proofs.Books.{Ledger, has_origin, holding_at, is_alone, is_unused, with_page, without_page, class, class_most, units, class_none, frame_for, units_changed, alone_is, alone_same, are, by_place, by_test, not_true, origin_with, unused_from, unused_parts, books_put_page, books_there, changed_there, keeps_page_put, keeps_page_set, KeepsSpaces, map_from, map_some, map_twice, page_put_here, page_put_beside, page_over, set_some, there_space, page_in, put_page, set_page, space_in, altered_page, LedgerView, PageView, frame_at, given_as, given_up, holding_of, ledger_of, lines_of, overlay_at, origin_of, with_frame}
+use Rattle.overlay_pages.proofs.Views.{page_lines, line_at, lines_same, line_in_page, AreKept, by_rank, PageState, State, IsAway, IsRebased, SeesFrame, books, held_page, discarded, frame_in, given_page, limit_of, moved_to, rebased_page, units_of, IsJoined, MemoryView, line_seen, page_state, state_of, view_of, state_awaiting, state_books, state_page, state_page_some, state_page_there, state_zero}
 use Rattle.ledger.specs.PlaceLaws.{gone_other}
 use Rattle.space_ledger.specs.Calls.{IsFreeFor}
 use Rattle.space_ledger.specs.ViewLaws.{frames_of}
-use Rattle.overlay_pages.proofs.Steps.{IsOthers, alone_other, seen_bare, segments_bare, stepped}
+use Rattle.overlay_pages.proofs.Steps.{IsOthers, alone_other, segments_bare, stepped}
 use Rattle.overlay_pages.proofs.Leaving.{LeavesStore}
 use Rattle.overlay_pages.proofs.Committing.{page_frame}
 use Rattle.overlay_pages.proofs.Joining.{Has, page_with}
@@ -160,10 +158,10 @@ module _ (a : MemoryView) (s p from other : ℕ) (x y : PageView) (is : IsJoined
       pub fewer : units_of (state_of (view_of store table)) + 16 ≡ units_of (state_of a)
       fewer = omega (arith, units_now, ap units (state_books (view_of store table)), ap units (state_books a))
 
--- The same of a page that is there, with the frame that was looked up.
+-- The same of a page that is there, with the frame that is known.
 module _ (a : MemoryView) (s p from other frame : ℕ) (is : IsJoined a) (there : IsSome (page_in a.table s p)) (bare : overlay_at a.table s p ≡ None)
     (alone : is_alone (ledger_of a.table) s p ≡ true) (theirs : IsSome (page_in a.table from other)) (away : IsAway (state_of a) s from other)
-    (frame_is : option_map (λ (x : PageView). x.entry.frame) (page_in a.table from other) ≡ Some frame) where
+    (frame_is : frame_at a.table from other ≡ Some frame) where
   abbrev mine : Has a.table s p None
   mine = page_with a.table s p there None bare
 
@@ -226,52 +224,52 @@ not_itself a s p from other there alone away ss pp =
       | inr none ↦ none p (λ i. frame_in (state_of a) (sym ss i) (sym pp i))
     ]
 
--- What the steps come to: the page's lines went into its frame, the page onto another one, and an overlay of lines came back.
+-- What the steps come to: the page's overlay ended, the page came onto another frame, and an overlay of lines came back.
 module _ (st one two : State) (s p from other : ℕ) (x y : PageState) (there : page_in st s p ≡ Some x) (at : page_in st from other ≡ Some y)
-    (differs : from ≡ s → other ≡ p → ⊥) (first : one ≡ altered_page committed st s p)
+    (differs : from ≡ s → other ≡ p → ⊥) (first : one ≡ altered_page discarded st s p)
     (second : IfSome (page_in one from other) (λ w. two ≡ altered_page (λ v. moved_to v w.base w.entry.frame) one s p)) where
-  one_is : one ≡ put_page st s p (committed x)
-  one_is = first ∙ changed_there committed st s p x there
+  one_is : one ≡ put_page st s p (discarded x)
+  one_is = first ∙ changed_there discarded st s p x there
 
   other_still : page_in one from other ≡ Some y
-  other_still = ap (λ v. page_in v from other) one_is ∙ page_put_beside st s p (committed x) from other differs ∙ at
+  other_still = ap (λ v. page_in v from other) one_is ∙ page_put_beside st s p (discarded x) from other differs ∙ at
 
-  two_is : two ≡ put_page st s p (moved_to (committed x) y.base y.entry.frame)
+  two_is : two ≡ put_page st s p (moved_to (discarded x) y.base y.entry.frame)
   two_is =
       subst (λ o. IfSome o (λ (w : PageState). two ≡ altered_page (λ v. moved_to v w.base w.entry.frame) one s p)) other_still second
       ∙ ap (λ v. altered_page (λ (w : PageState). moved_to w y.base y.entry.frame) v s p) one_is
-      ∙ changed_there (λ (w : PageState). moved_to w y.base y.entry.frame) (put_page st s p (committed x)) s p (committed x) (page_put_here st s p (committed x) s p refl refl)
-      ∙ page_over st s p (committed x) (moved_to (committed x) y.base y.entry.frame)
+      ∙ changed_there (λ (w : PageState). moved_to w y.base y.entry.frame) (put_page st s p (discarded x)) s p (discarded x) (page_put_here st s p (discarded x) s p refl refl)
+      ∙ page_over st s p (discarded x) (moved_to (discarded x) y.base y.entry.frame)
 
   -- the frame that was given up has room for any overlay
   pub two_fits : units_of one ≤ limit_of one → units_of two + 16 ≡ units_of one → (n : ℕ) → units_of two + class n ≤ limit_of two
   two_fits fits fewer n =
       let limit = ap limit_of (subst (λ o. IfSome o (λ (w : PageState). two ≡ altered_page (λ v. moved_to v w.base w.entry.frame) one s p)) other_still second)
-      ∙ altered_limit (λ (w : PageState). moved_to w y.base y.entry.frame) one s p (committed x) (ap (λ v. page_in v s p) one_is ∙ page_put_here st s p (committed x) s p refl refl) in
+      ∙ altered_limit (λ (w : PageState). moved_to w y.base y.entry.frame) one s p (discarded x) (ap (λ v. page_in v s p) one_is ∙ page_put_here st s p (discarded x) s p refl refl) in
       omega (arith, fits, fewer, class_most n, limit)
 
-  module _ (three : State) (bits : List ℕ) (given : List (List ℕ)) (third : three ≡ altered_page (given_page bits given) two s p)
-      (whole : page_lines (line_in_page x.lines) ≡ x.lines) (given_is : (i : ℕ) → i < 64 → line_in_page given i ≡ line_in_page x.lines i) (sees : SeesFrame bits x y) where
-    each : (i : ℕ) → i < 64 → cond (has_line bits i) (line_in_page given i) (line_in_page y.base i) ≡ line_in_page x.lines i
+  module _ (three : State) (bits : List ℕ) (given : ℕ → List ℕ) (third : three ≡ altered_page (given_page bits given) two s p)
+      (whole : page_lines (line_in_page x.lines) ≡ x.lines) (given_is : (i : ℕ) → i < 64 → has_line bits i ≡ true → given i ≡ line_in_page x.lines i) (sees : SeesFrame bits x y) where
+    each : (i : ℕ) → i < 64 → cond (has_line bits i) (given i) (line_in_page y.base i) ≡ line_in_page x.lines i
     each i low = by_test (has_line bits i)
-        (λ has. ap (λ b. cond b (line_in_page given i) (line_in_page y.base i)) has ∙ given_is i low)
-        (λ lacks. ap (λ b. cond b (line_in_page given i) (line_in_page y.base i)) lacks ∙ sym (sees i low lacks))
+        (λ has. ap (λ b. cond b (given i) (line_in_page y.base i)) has ∙ given_is i low has)
+        (λ lacks. ap (λ b. cond b (given i) (line_in_page y.base i)) lacks ∙ sym (sees i low lacks))
 
-    page_rebased : given_page bits given (moved_to (committed x) y.base y.entry.frame) ≡ rebased_page bits y x
+    page_rebased : given_page bits given (moved_to (discarded x) y.base y.entry.frame) ≡ rebased_page bits y x
     page_rebased =
-        let lines = lines_same (λ i. cond (has_line bits i) (line_in_page given i) (line_in_page y.base i)) (line_in_page x.lines) each ∙ whole in
+        let lines = lines_same (λ i. cond (has_line bits i) (given i) (line_in_page y.base i)) (line_in_page x.lines) each ∙ whole in
         λ i. record { entry = record { perms = x.entry.perms; frame = y.entry.frame }; own = bits; lines = lines i; base = y.base }
 
     pub three_is : IsRebased st three s p from other bits
     three_is = subst (λ o. IfSome o (λ (w : PageState). three ≡ altered_page (rebased_page bits w) st s p)) (sym at)
         (third ∙ ap (λ v. altered_page (given_page bits given) v s p) two_is
-        ∙ changed_there (given_page bits given) (put_page st s p (moved_to (committed x) y.base y.entry.frame)) s p (moved_to (committed x) y.base y.entry.frame)
-        (page_put_here st s p (moved_to (committed x) y.base y.entry.frame) s p refl refl)
-        ∙ page_over st s p (moved_to (committed x) y.base y.entry.frame) (given_page bits given (moved_to (committed x) y.base y.entry.frame))
+        ∙ changed_there (given_page bits given) (put_page st s p (moved_to (discarded x) y.base y.entry.frame)) s p (moved_to (discarded x) y.base y.entry.frame)
+        (page_put_here st s p (moved_to (discarded x) y.base y.entry.frame) s p refl refl)
+        ∙ page_over st s p (moved_to (discarded x) y.base y.entry.frame) (given_page bits given (moved_to (discarded x) y.base y.entry.frame))
         ∙ ap (put_page st s p) page_rebased ∙ sym (changed_there (rebased_page bits y) st s p x there))
 
 -- What the first step leaves.
-module _ (a v : MemoryView) (s p : ℕ) (there : IsSome (page_in a.table s p)) (is : IsJoined v) (same : state_of v ≡ altered_page committed (state_of a) s p) where
+module _ (a v : MemoryView) (s p : ℕ) (there : IsSome (page_in a.table s p)) (is : IsJoined v) (same : state_of v ≡ altered_page discarded (state_of a) s p) where
   abbrev was : Has a.table s p (overlay_at a.table s p)
   was = page_with a.table s p there (overlay_at a.table s p) refl
 
@@ -281,25 +279,25 @@ module _ (a v : MemoryView) (s p : ℕ) (there : IsSome (page_in a.table s p)) (
   page_there : page_in (state_of a) s p ≡ Some page
   page_there = state_page_there a s p was.x was.there
 
-  after_is : state_of v ≡ put_page (state_of a) s p (committed page)
-  after_is = same ∙ changed_there committed (state_of a) s p page page_there
+  after_is : state_of v ≡ put_page (state_of a) s p (discarded page)
+  after_is = same ∙ changed_there discarded (state_of a) s p page page_there
 
-  keeps : KeepsSpaces (state_of a) (put_page (state_of a) s p (committed page))
-  keeps = keeps_page_put (state_of a) s p (committed page) (there_space (state_of a) s p page page_there)
+  keeps : KeepsSpaces (state_of a) (put_page (state_of a) s p (discarded page))
+  keeps = keeps_page_put (state_of a) s p (discarded page) (there_space (state_of a) s p page page_there)
 
-  after_page : page_in (state_of v) s p ≡ Some (committed page)
-  after_page = ap (λ st. page_in st s p) after_is ∙ page_put_here (state_of a) s p (committed page) s p refl refl
+  after_page : page_in (state_of v) s p ≡ Some (discarded page)
+  after_page = ap (λ st. page_in st s p) after_is ∙ page_put_here (state_of a) s p (discarded page) s p refl refl
 
   pub after_there : IsSome (page_in v.table s p)
   after_there = sym (state_page_some v s p) ∙ ap is_some after_page
 
   pub after_bare : overlay_at v.table s p ≡ None
-  after_bare = bare_by v s p is (committed page) after_page refl after_there
+  after_bare = bare_by v s p is (discarded page) after_page refl after_there
 
   pub after_alone : is_alone (ledger_of a.table) s p ≡ true → is_alone (ledger_of v.table) s p ≡ true
   after_alone alone =
-      ap (λ (l : Ledger). is_alone l s p) (sym (state_books v) ∙ ap books after_is ∙ books_put_page held_page (state_of a) s p (committed page))
-      ∙ alone_same (books (state_of a)) s p (held_page (state_of a).zero_frame page) (held_page (state_of a).zero_frame (committed page)) (books_there held_page (state_of a) s p page page_there) refl s p
+      ap (λ (l : Ledger). is_alone l s p) (sym (state_books v) ∙ ap books after_is ∙ books_put_page held_page (state_of a) s p (discarded page))
+      ∙ alone_same (books (state_of a)) s p (held_page (state_of a).zero_frame page) (held_page (state_of a).zero_frame (discarded page)) (books_there held_page (state_of a) s p page page_there) refl s p
       ∙ ap (λ (l : Ledger). is_alone l s p) (state_books a) ∙ alone
 
   pub after_awaits : (space_in a.table s).awaiting ≡ empty → (space_in v.table s).awaiting ≡ empty
@@ -309,9 +307,25 @@ module _ (a v : MemoryView) (s p : ℕ) (there : IsSome (page_in a.table s p)) (
   after_frame q r =
       ap (λ (st : State). frame_in st q r) after_is
       ∙ by_place s p q r
-      (λ ss pp. ap (option_map (λ (x : PageState). x.entry.frame)) (page_put_here (state_of a) s p (committed page) q r ss pp)
+      (λ ss pp. ap (option_map (λ (x : PageState). x.entry.frame)) (page_put_here (state_of a) s p (discarded page) q r ss pp)
       ∙ sym (ap (option_map (λ (x : PageState). x.entry.frame)) ((λ i. page_in (state_of a) (ss i) (pp i)) ∙ page_there)))
-      (λ d. ap (option_map (λ (x : PageState). x.entry.frame)) (page_put_beside (state_of a) s p (committed page) q r d))
+      (λ d. ap (option_map (λ (x : PageState). x.entry.frame)) (page_put_beside (state_of a) s p (discarded page) q r d))
+
+  -- the frames of pages, and the entry of that page
+  pub after_framed : (q r frame : ℕ) → frame_at a.table q r ≡ Some frame → frame_at v.table q r ≡ Some frame
+  unfolding page_state
+  after_framed q r frame is =
+      sym (ap (option_map (λ (x : PageState). x.entry.frame)) (state_page v q r) ∙ map_twice (λ (x : PageState). x.entry.frame) (page_state v.store) (λ (x : PageView). x.entry.frame) (page_in v.table q r) (λ x _. refl))
+      ∙ after_frame q r
+      ∙ ap (option_map (λ (x : PageState). x.entry.frame)) (state_page a q r) ∙ map_twice (λ (x : PageState). x.entry.frame) (page_state a.store) (λ (x : PageView). x.entry.frame) (page_in a.table q r) (λ x _. refl)
+      ∙ is
+
+  pub after_entry : (e : PageEntry) → Some e ≡ option_map (λ (x : PageView). x.entry) (page_in a.table s p) → Some e ≡ option_map (λ (x : PageView). x.entry) (page_in v.table s p)
+  unfolding page_state
+  after_entry e is =
+      is ∙ ap (option_map (λ (x : PageView). x.entry)) was.there
+      ∙ sym (ap (option_map (λ (x : PageState). x.entry)) (sym (state_page v s p) ∙ after_page))
+      ∙ map_twice (λ (x : PageState). x.entry) (page_state v.store) (λ (x : PageView). x.entry) (page_in v.table s p) (λ x _. refl)
 
   pub after_theirs : (from other : ℕ) → IsSome (page_in a.table from other) → IsSome (page_in v.table from other)
   after_theirs from other some =
@@ -324,20 +338,6 @@ module _ (a v : MemoryView) (s p : ℕ) (there : IsSome (page_in a.table s p)) (
     | inr none ↦ inr (λ q e. none q (sym (after_frame s q) ∙ e ∙ after_frame from other))
   ]
 
--- The lines that wait: those of its frame.
-pub waiting_line : (v : MemoryView) (s p own : ℕ) (given : List (List ℕ)) (x : PageState) → Has v.table s p None → page_in (state_of v) s p ≡ Some x
-    → option_map (λ (w : PageView). w.entry.frame) (page_in v.table s p) ≡ Some own
-    → given ≡ composed (frame_page v.store own) (scratch_page v.store) [] → (i : ℕ) → i < 64 → line_in_page given i ≡ line_in_page x.lines i
-unfolding page_state
-waiting_line v s p own given x has at framed is i low =
-    ap (λ l. line_in_page l i) is ∙ composed_at (frame_page v.store own) (scratch_page v.store) [] 64 i [] low
-    ∙ get_or-take 64 (drop (64 * own) v.store.lines) i [] low ∙ get_or-drop (64 * own) v.store.lines i []
-    ∙ ap (λ f. frame_line v.store f i) (sym frame_is) ∙ sym (line_at (frame_line v.store has.x.entry.frame) i low)
-    ∙ ap (λ l. line_in_page l i) (sym (seen_bare v.store has.x has.is)) ∙ ap (λ (w : PageState). line_in_page w.lines i) (same_Some _ _ (sym (state_page_there v s p has.x has.there) ∙ at))
-  where
-    frame_is : has.x.entry.frame ≡ own
-    frame_is = same_Some _ _ (sym (ap (option_map (λ (w : PageView). w.entry.frame)) has.there) ∙ framed)
-
 -- the lines of a page are those of it
 pub whole_lines : (v : MemoryView) (s p : ℕ) (x : PageState) → page_in (state_of v) s p ≡ Some x → page_lines (line_in_page x.lines) ≡ x.lines
 unfolding page_state
@@ -347,17 +347,9 @@ whole_lines v s p x at = map_from (page_state v.store) (page_in v.table s p) x (
     ∙ ap (λ (w : PageState). w.lines) same)
 
 -- All of it, from what the calls ensure.
-module _ (a v : MemoryView) (s p : ℕ) (there : IsSome (page_in a.table s p)) (is : IsJoined v) (same : state_of v ≡ altered_page committed (state_of a) s p) where
-  abbrev bare_now : Has v.table s p None
-  bare_now = page_with v.table s p (after_there a v s p there is same) None (after_bare a v s p there is same)
-
+module _ (a v : MemoryView) (s p : ℕ) (there : IsSome (page_in a.table s p)) (is : IsJoined v) (same : state_of v ≡ altered_page discarded (state_of a) s p) where
   abbrev first : PageState
   first = page a v s p there is same
-
-  pub rebase_own : (own : ℕ) → option_map (λ (x : PageView). x.entry.frame) (page_in v.table s p) ≡ Some own → 16 * own + 16 ≤ units_in v.store.blocks
-  rebase_own own e =
-      let inside = frame_inside v.store is.store bare_now.x.entry.frame (is.held s p bare_now.x bare_now.there).frame in
-      omega (arith, inside, page_frame v.table s p bare_now.x own bare_now.there e)
 
   module _ (from other : ℕ) (alone : is_alone (ledger_of a.table) s p ≡ true) (theirs : IsSome (page_in a.table from other)) (away : IsAway (state_of a) s from other) (two : State)
       (second : IfSome (page_in (state_of v) from other) (λ w. two ≡ altered_page (λ u. moved_to u w.base w.entry.frame) (state_of v) s p)) where
@@ -375,11 +367,9 @@ module _ (a v : MemoryView) (s p : ℕ) (there : IsSome (page_in a.table s p)) (
         two_fits (state_of a) (state_of v) two s p from other first other_page (page_there a v s p there is same) other_there (not_itself a s p from other there alone away) same second
         (omega (arith, free_is v is)) fewer n
 
-    pub rebase_state : (three : State) (bits : List ℕ) (given : List (List ℕ)) → three ≡ altered_page (given_page bits given) two s p
-        → (own : ℕ) → option_map (λ (x : PageView). x.entry.frame) (page_in v.table s p) ≡ Some own → {none : List ℕ} → given ≡ composed (frame_page v.store own) (scratch_page v.store) none → none ≡ []
+    pub rebase_state : (three : State) (bits : List ℕ) (kept : List (List ℕ)) → three ≡ altered_page (given_page bits (by_rank bits kept)) two s p → AreKept (state_of a) s p bits kept
         → ((x y : PageState) → page_in (state_of a) s p ≡ Some x → page_in (state_of a) from other ≡ Some y → SeesFrame bits x y) → IsRebased (state_of a) three s p from other bits
-    rebase_state three bits given third own own_is given_is none sees =
+    rebase_state three bits kept third are sees =
         three_is (state_of a) (state_of v) two s p from other first other_page (page_there a v s p there is same) other_there (not_itself a s p from other there alone away) same second
-        three bits given third (whole_lines a s p first (page_there a v s p there is same))
-        (waiting_line v s p own given (committed first) bare_now (after_page a v s p there is same) own_is (given_is ∙ ap (composed (frame_page v.store own) (scratch_page v.store)) none))
+        three bits (by_rank bits kept) third (whole_lines a s p first (page_there a v s p there is same)) (are first (page_there a v s p there is same))
         (sees first other_page (page_there a v s p there is same) other_there)

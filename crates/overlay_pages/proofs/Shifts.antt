@@ -327,6 +327,10 @@ few_beside old mid now s p x there is few = record {
 pub few_none : (s p : ℕ) (v : LedgerView) → MovesFewBeside s p v v
 few_none s p v = record { moves = []; ascend = omega arith; stay = λ q r e d over out. over }
 
+-- and where the frame of the page is another one before
+pub few_after : (old mid now : LedgerView) (s p : ℕ) → ((q r : ℕ) → (q ≡ s → r ≡ p → ⊥) → overlay_at mid q r ≡ overlay_at old q r) → MovesFewBeside s p mid now → MovesFewBeside s p old now
+few_after old mid now s p same few = record { moves = few.moves; ascend = few.ascend; stay = λ q r e d over out. few.stay q r e d (same q r d ∙ over) out }
+
 -- and where the frame of the page is another one then
 pub few_framed : (old mid now : LedgerView) (s p : ℕ) → ((q r : ℕ) → (q ≡ s → r ≡ p → ⊥) → overlay_at now q r ≡ overlay_at mid q r) → MovesFewBeside s p old mid → MovesFewBeside s p old now
 few_framed old mid now s p same few = record { moves = few.moves; ascend = few.ascend; stay = λ q r e d over out. same q r d ∙ few.stay q r e d over out }

@@ -148,6 +148,31 @@ segments_bare old new s p same kept blocks whole store = record {
   store = store;
 }
 
+-- of a page whose overlay stays, where no segment changed but the lines of its own
+pub segments_same : {P : List Piece → Type 0} (old new : Store) (s p : ℕ) (x : PageView) → IsHeld old s p x → new.segments ≡ old.segments
+    → ((unit : ℕ) (segment : Segment) → IsElse x.overlay unit → segment_at old unit ≡ Some segment → KeepsSegment old new (block_of unit segment))
+    → P new.blocks → units_in new.blocks ≡ units_in old.blocks → IsStore new → Segments P old new s p x.overlay x.overlay
+segments_same old new s p x held same kept blocks whole store = record {
+  kept = kept;
+  others = λ unit segment at_unit.
+      let before = sym (at unit) ∙ at_unit in
+      by_option x.overlay
+      (λ none. inl (λ e h. absurd (none-some e (sym none ∙ h)), before))
+      (λ f over. elim (cases_eq unit f.block.unit) [
+        | inl here ↦ inr (f, over, sym here)
+        | inr away ↦ inl (λ e h there. away (there ∙ ap (λ (g : Entry). g.block.unit) (same_Some e f (sym h ∙ over))), before)
+      ]);
+  there = λ e over. at e.block.unit ∙ held.segment e over;
+  lined = held.lined;
+  size = held.size;
+  blocks = blocks;
+  whole = whole;
+  store = store;
+}
+  where
+    at : (unit : ℕ) → segment_at new unit ≡ segment_at old unit
+    at unit = ap (λ l. slice_index_or l unit None) same
+
 -- a frame that the zero frame is, or one of another page
 abbrev pub IsOthers : LedgerView → ℕ → ℕ → ℕ → Type 0
 IsOthers v s p frame =
@@ -304,23 +329,7 @@ module _ (v : MemoryView) (new : Store) (s p : ℕ) (x : PageView) (is : IsJoine
         low = was.low;
         was = there;
         table_is = sym (set_some v.table s p x ∙ page_again v.table s p x there);
-        segments = record {
-          kept = so.segments;
-          others = λ unit segment at_unit.
-              let before = sym (segment_same unit) ∙ at_unit in
-              by_option x.overlay
-              (λ none. inl (λ e h. absurd (none-some e (sym none ∙ h)), before))
-              (λ f over. elim (cases_eq unit f.block.unit) [
-                | inl same ↦ inr (f, over, sym same)
-                | inr away ↦ inl (λ e h same. away (same ∙ ap (λ (g : Entry). g.block.unit) (same_Some e f (sym h ∙ over))), before)
-              ]);
-          there = λ e over. segment_same e.block.unit ∙ was.segment e over;
-          lined = was.lined;
-          size = was.size;
-          blocks = subst AreSettled (sym so.blocks) is.blocks;
-          whole = ap units_in so.blocks;
-          store = so.store;
-        };
+        segments = segments_same v.store new s p x was so.same so.segments (subst AreSettled (sym so.blocks) is.blocks) (ap units_in so.blocks) so.store;
         frames = so.frames;
         frame = λ y same. subst (λ (z : PageView). IsFrame new z.entry.frame) (same_Some x y same) (record {
           taken = subst (λ l. IsPiece l (taken_at (FRAME_UNITS * x.entry.frame) 4)) (sym so.blocks) was.frame.taken;

@@ -8,7 +8,7 @@ unfoldable pub use Rattle.overlay_pages.specs.Lines.{bytes_of_line, lines_of_byt
 pub use Rattle.overlay_pages.specs.SpotLaws.{found_at}
 pub use Rattle.overlay_pages.specs.Spots.{IsBroughtTo, IsFound, IsFoundAt, IsFoundPage, IsFoundPageAt, IsInFrame, IsInSegment, IsSpot}
 pub use Rattle.overlay_pages.specs.State.{PageState, SpaceState, State, books, held_page}
-pub use Rattle.overlay_pages.specs.Steps.{FollowsAll, FollowsAt, IsAhead, IsBehind, IsLaid, IsOfPage, KeepsOtherOverlays, Moved, MovesFew, PutsLine, Tells, given_page, joins, laid, laid_line, relocated}
+pub use Rattle.overlay_pages.specs.Steps.{AreKept, FollowsAll, FollowsAt, IsAhead, IsBehind, IsLaid, IsOfPage, KeepsOtherOverlays, Moved, MovesFew, PutsLine, Tells, by_rank, given_page, joins, laid, laid_line, relocated}
 unfoldable pub use Rattle.overlay_pages.specs.Steps.{went_overlay, went_page}
 pub use Rattle.overlay_pages.specs.TableLaws.{state_added, state_awaiting_put, state_cut_space, state_mark_put}
 pub use Rattle.overlay_pages.specs.View.{HasOwnPlace, IsHeld, IsJoined, IsJoinedWith, IsOwned, MemoryView, ShareFrameLine, line_seen, place_at, place_in_page, segment_of, view_of}

@@ -1,11 +1,11 @@
-use Rattle.std.specs.Prelude.{◌≡◌, ℕ, ◌<◌, cond, nat_eq, List, [], length, get_or, set, slice_set, refl}
+use Rattle.std.specs.Prelude.{◌≡◌, ℕ, ◌/◌, ◌%◌, ◌<◌, cond, nat_eq, List, [], length, get_or, set, slice_index, slice_set, refl}
 use Rattle.std.proofs.Common.{sym, ap, ◌∙◌, arith, inl, inr}
 use Rattle.std.proofs.lemmas.Bool.{cases_eq}
 use Rattle.std.proofs.lemmas.List.{get_or-set_other, get_or-set_same, length-set, same_lists}
 use Rattle.std.proofs.lemmas.List.FromFn.{get_or-map-range_with_len, length-map-range_with_len}
-use Rattle.sizes.specs.declared.TheConstants.{PAGE_LINES}
+use Rattle.sizes.specs.declared.TheConstants.{LINE_BYTES, PAGE_BYTES, PAGE_LINES}
 use Rattle.ledger.specs.AloneLaws.{are, arent}
-use Rattle.overlay_pages.specs.Lines.{line_in_page, lines_of_page, page_lines}
+use Rattle.overlay_pages.specs.Lines.{bytes_in_lines, bytes_of_page, line_in_page, lines_of_page, page_lines}
 
 -- Laws of the lines of a page.
 
@@ -41,3 +41,22 @@ set_line f line bytes h =
           ap (λ k. get_or (set (page_lines f) line bytes) k d) e ∙ get_or-set_same (page_lines f) line bytes d (omega (arith, h, lines_count f)) ∙ sym (ap (λ b. cond b bytes (f i)) (are line i (sym e)))
       | inr away ↦ get_or-set_other (page_lines f) line i bytes d away ∙ line_or f i d low ∙ sym (ap (λ b. cond b bytes (f i)) (arent line i (λ e. away (sym e))))
     ])
+
+-- The bytes of a page by its lines.
+
+pub bytes_of_page_is : bytes_of_page ≡ PAGE_BYTES
+unfolding bytes_of_page
+bytes_of_page_is = refl
+
+pub byte_count : (lines : List (List ℕ)) → length (bytes_in_lines lines) ≡ PAGE_BYTES
+unfolding bytes_in_lines
+byte_count lines =
+    length-map-range_with_len (λ i. slice_index (line_in_page lines (i / LINE_BYTES)) (i % LINE_BYTES)) 0 bytes_of_page ∙ bytes_of_page_is
+
+-- a byte by its line and its place there
+pub byte_at : (lines : List (List ℕ)) (i : ℕ) → i < PAGE_BYTES
+    → get_or (bytes_in_lines lines) i 0 ≡ get_or (line_in_page lines (i / LINE_BYTES)) (i % LINE_BYTES) 0
+unfolding bytes_in_lines
+byte_at lines i low =
+    get_or-map-range_with_len (λ i. slice_index (line_in_page lines (i / LINE_BYTES)) (i % LINE_BYTES)) 0 bytes_of_page i i 0
+    (omega (arith, low, bytes_of_page_is)) (omega arith)

@@ -1,5 +1,5 @@
 use Rattle.std.specs.Prelude.{◌≡◌, ℕ, Some}
-use Rattle.std.proofs.Common.{subst}
+use Rattle.std.proofs.Common.{subst, sym}
 use Rattle.std.specs.Option.{option_map}
 use Rattle.overlay_pages.specs.declared.spots.FoundLine.{FoundLine}
 use Rattle.overlay_pages.specs.Spots.{IsFoundAt}
@@ -15,6 +15,10 @@ module _ (view : MemoryView) (space page line : ℕ) (found : FoundLine) (it : I
   pub found_at : (P : ℕ → ℕ → ℕ → Type 0) → P found.space found.page found.line → P space page line
   found_at P holds =
       subst (λ s. P s page line) it.space_is (subst (λ p. P found.space p line) it.page_is (subst (λ l. P found.space found.page l) it.line_is holds))
+
+  pub to_line : (P : ℕ → ℕ → ℕ → Type 0) → P space page line → P found.space found.page found.line
+  to_line P holds =
+      subst (λ s. P s found.page found.line) (sym it.space_is) (subst (λ p. P space p found.line) (sym it.page_is) (subst (λ l. P space page l) (sym it.line_is) holds))
 
   -- its page is there, with these permissions
   pub found_page : (x : PageState) × (page_in (state_of view) space page ≡ Some x) × (x.entry.perms ≡ found.perms)

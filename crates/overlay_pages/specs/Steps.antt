@@ -1,10 +1,11 @@
 use Rattle.std.specs.Prelude.{◌≡◌, ℕ, ◌+◌, ◌^◌, ◌<◌, ◌≤◌, ◌⊎◌, true, cond, nat_eq, List, Option, Some, None, IsSome, option_map, slice_set}
+use Rattle.sizes.specs.declared.TheConstants.{PAGE_LINES}
 use Rattle.unit_map.specs.Pieces.{AreSettled, CanSettle, free_units, units_in}
 use Rattle.unit_map.specs.declared.block.Block.{Block}
 use Rattle.store_compaction.specs.declared.moves.Move.{Move}
 use Rattle.store_compaction.specs.Next.{Ascend}
 use Rattle.overlay_address.specs.Names.{page_of, space_of}
-use Rattle.overlay_bits.specs.Lines.{has_line, with_line}
+use Rattle.overlay_bits.specs.Lines.{has_line, rank_of, with_line}
 use Rattle.overlay_mapping_table.specs.declared.entry.Entry.{Entry}
 use Rattle.segment_store.specs.declared.segment.Segment.{Segment}
 use Rattle.segment_store.specs.Kept.{IsStore}
@@ -14,7 +15,7 @@ use Rattle.space_maps.specs.Laws.{KeepsSpaces}
 use Rattle.space_maps.specs.Spaces.{page_in}
 use Rattle.space_ledger.specs.View.{LedgerView, PageView, overlay_at, with_block, with_overlay}
 use Rattle.overlay_pages.specs.Lines.{line_in_page, page_lines}
-use Rattle.overlay_pages.specs.State.{PageState}
+use Rattle.overlay_pages.specs.State.{PageState, State}
 use Rattle.overlay_pages.specs.View.{IsJoined, IsJoinedWith, MemoryView, state_of, view_of}
 
 -- What the steps of calls do, of which each leaves a view that is joined.
@@ -128,13 +129,22 @@ pub record IsLaid (old new : Store) (owner : ℕ) (block : Block) (bits : List �
   pub store : IsStore new
 
 -- a page with an overlay of lines that are given
-abbrev pub given_page : List ℕ → List (List ℕ) → PageState → PageState
+abbrev pub given_page : List ℕ → (ℕ → List ℕ) → PageState → PageState
 given_page bits given x = record {
   entry = x.entry;
   own = bits;
-  lines = page_lines (λ i. cond (has_line bits i) (line_in_page given i) (line_in_page x.base i));
+  lines = page_lines (λ i. cond (has_line bits i) (given i) (line_in_page x.base i));
   base = x.base;
 }
+
+-- a line of a set, where those of the set stand one behind the other
+abbrev pub by_rank : List ℕ → List (List ℕ) → ℕ → List ℕ
+by_rank bits kept i = line_in_page kept (rank_of bits i)
+
+-- lines of a page, as it is seen, stand so
+abbrev pub AreKept : State → ℕ → ℕ → List ℕ → List (List ℕ) → Type 0
+AreKept state space page bits kept =
+    (x : PageState) → page_in state space page ≡ Some x → (i : ℕ) → i < PAGE_LINES → has_line bits i ≡ true → by_rank bits kept i ≡ line_in_page x.lines i
 
 -- one line of a frame that is taken changed, and nothing else
 pub record PutsLine (old new : Store) (frame line : ℕ) (bytes : List ℕ) : Type 0 where

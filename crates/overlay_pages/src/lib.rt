@@ -25,4 +25,5 @@ mod sharing;
 mod spots;
 
 pub use pages::OverlayPages;
+pub use settling::{LARGE_LINES, MOST_OWN};
 pub use spots::{FoundLine, FoundPage};

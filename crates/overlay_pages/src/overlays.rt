@@ -63,19 +63,21 @@ pub(crate) fn end_overlay(
     ensures few { MovesFewBeside space page ledger.old ledger.new }
 {
     store.end_segment(overlay.block);
-    ledger.set_overlay(space, page, None);
+    ledger.replace_overlay(space, page, Some(*overlay), None);
     settle(store, ledger);
 }
 
-/// The overlay of a page that is there ends, if it has one.
+/// The overlay of a page that is there ends, if it has one, which is known.
 pub(crate) fn drop_overlay(
     store: &mut SegmentStore,
     ledger: &mut SpaceLedger,
     space: u16,
     page: u64,
+    overlay: Option<Entry>,
 )
     requires joined { IsJoined (view_of store.old ledger.old) }
     requires there { IsSome (page_in ledger.old space page) }
+    requires overlay { overlay_at ledger.old space page ≡ overlay }
     ensures joined { IsJoined (view_of store.new ledger.new) }
     ensures state { state_of (view_of store.new ledger.new)
         ≡ altered_page discarded (state_of (view_of store.old ledger.old)) space page }
@@ -85,7 +87,7 @@ pub(crate) fn drop_overlay(
     ensures frames { KeepsFrames store.old store.new }
     ensures few { MovesFewBeside space page ledger.old ledger.new }
 {
-    if let Some(entry) = ledger.overlay(space, page) {
+    if let Some(entry) = overlay {
         end_overlay(store, ledger, space, page, &entry);
     }
 }

@@ -18,15 +18,16 @@ ghost use Rattle.overlay_pages.specs.Lines.{line_in_page, lines_of_bytes};
 ghost use Rattle.overlay_pages.specs.State.{PageState, base_of, books, memory_of};
 ghost use Rattle.overlay_pages.specs.Changes.{AreAbsent, Fits, HasCopyRoom, HasShareRoom, IsAway, IsPlaced, IsRebased, SeesFrame, brought, committed, copied, discarded, frame_but_zero, is_writable, limit_of, units_of, whole_page, with_brought, with_shared, with_written, with_zeros};
 ghost use Rattle.overlay_pages.specs.View.{HasOwnPlace, IsJoined, place_at, state_of};
-ghost use Rattle.overlay_pages.specs.Spots.{FindsLine, FindsPage, IsBroughtTo, IsFound, IsFoundPage};
+ghost use Rattle.overlay_pages.specs.Spots.{FindsLine, FindsPage, IsBroughtTo, IsFound, IsFoundPage, IsFoundPageAt};
 ghost use Rattle.overlay_pages.specs.Calls.{AreMapped, AreShared, AreZeros, AwaitBare, AwaitsLike, HasSettledBlocks, IsEmptyState, IsNextPage, KeepsWholeBlocks, MovesFewBeside, NoneAwaitsBelow, RisesBy, entries_in, with_line_at_place};
+ghost use Rattle.overlay_pages.specs.declared.settling.TheConstants.{MOST_OWN};
 ghost use Rattle.overlay_pages.specs.contracts.pages.OverlayPages.{the_row};
 
 use crate::frames::frame_but;
 use crate::overlays::{bring_found, bring_lines, drop_overlay};
 use crate::placing::{place_bytes, take_out, take_run_out};
-use crate::rebasing::rebase;
-use crate::settling::{commit, copy_commit};
+use crate::rebasing::{keep_lines, rebase};
+use crate::settling::{MOST_OWN, commit, copy_commit};
 use crate::sharing::{share, share_below};
 use crate::spots::{FoundLine, FoundPage, Spot, parts_of};
 use overlay_bits::Bits;
@@ -162,7 +163,8 @@ impl OverlayPages {
         ensures gone { state_of self.new ≡ cut_page (state_of self.old) space page }
         ensures low { page < PAGE_END }
     {
-        drop_overlay(&mut self.store, &mut self.ledger, space, page);
+        let overlay = self.ledger.overlay(space, page);
+        drop_overlay(&mut self.store, &mut self.ledger, space, page, overlay);
         take_out(&mut self.store, &mut self.ledger, space, page);
     }
 
@@ -235,6 +237,16 @@ impl OverlayPages {
             Some(entry) => frame_but(entry.frame, self.ledger.zero_frame()),
             None => unreachable!(),
         }
+    }
+
+    /// The frame of a page that was found. None exactly where it is the zero frame. Costs a step.
+    pub fn frame_of_found(&self, page: &FoundPage) -> Option<u32>
+        requires found { IsFoundPage self.now.table page.now }
+        ensures frame { option_map (λ x. frame_but_zero (state_of self.now).zero_frame x.entry.frame)
+            (page_in (state_of self.now) page.now.space page.now.page) ≡ Some result }
+        ensures low { IfSome result (λ frame. frame < MOST_FRAMES) }
+    {
+        frame_but(page.frame, self.ledger.zero_frame())
     }
 
     /// The permissions of a page that is there. Costs a look-up.
@@ -545,9 +557,35 @@ impl OverlayPages {
             (λ x. IsPlaced (state_of self.old) (state_of self.new) space page (λ frame. copied frame x)) }
         ensures few { MovesFewBeside space page self.old.table self.new.table }
     {
-        let overlay = self.ledger.overlay(space, page);
-        match overlay {
-            Some(overlay) => copy_commit(&mut self.store, &mut self.ledger, space, page, overlay),
+        match self.find_page(space, page) {
+            Some(found) => {
+                self.settle_found(&found);
+            }
+            None => unreachable!(),
+        }
+    }
+
+    /// As `copy_commit_page`, of a page that was found. Answers it as it is found then. Looks nothing up but what changes.
+    pub fn settle_found(&mut self, page: &FoundPage) -> FoundPage
+        requires found { IsFoundPage self.old.table page.now }
+        requires overlaid { IfSome (page_in (state_of self.old) page.now.space page.now.page)
+            (λ x. 0 < length x.own) }
+        requires shared { is_alone (books (state_of self.old)) page.now.space page.now.page ≡ false }
+        requires none_awaits { (space_in (state_of self.old) page.now.space).awaiting ≡ map.empty }
+        requires room { HasCopyRoom (state_of self.old) page.now.space page.now.page }
+        ensures placed { IfSome (page_in (state_of self.old) page.now.space page.now.page)
+            (λ x. IsPlaced (state_of self.old) (state_of self.new) page.now.space page.now.page
+            (λ frame. copied frame x)) }
+        ensures found { IsFoundPageAt self.new page.now.space page.now.page result }
+        ensures few { MovesFewBeside page.now.space page.now.page self.old.table self.new.table }
+    {
+        let (space, number) = (page.space, page.page);
+        match page.overlay() {
+            Some(overlay) => {
+                let (store, ledger) = (&mut self.store, &mut self.ledger);
+                let frame = copy_commit(store, ledger, space, number, page.entry(), overlay);
+                page.on_frame(frame, self.writes_frame(space, frame))
+            }
             None => unreachable!(),
         }
     }
@@ -558,31 +596,36 @@ impl OverlayPages {
         ensures state { state_of self.new ≡ altered_page discarded (state_of self.old) space page }
         ensures few { MovesFewBeside space page self.old.table self.new.table }
     {
+        let overlay = self.ledger.overlay(space, page);
         let store = &mut self.store;
-        drop_overlay(store, &mut self.ledger, space, page);
+        drop_overlay(store, &mut self.ledger, space, page, overlay);
     }
 
-    /// A page that is alone comes onto the frame of another page, on which no page of its space is unless it is the zero frame: with
-    /// these lines as its own, and as it is seen. All its other lines are in that frame already. No page of its space awaits. Takes no
-    /// memory. Costs a copy of the page and of each of these lines, and moves that copy 60 lines at most.
-    pub fn rebase_page(&mut self, space: u16, page: u64, from: u16, other: u64, lines: Bits)
-        requires there { IsSome (page_in (state_of self.old) space page) }
-        requires alone { is_alone (books (state_of self.old)) space page ≡ true }
-        requires none_awaits { (space_in (state_of self.old) space).awaiting ≡ map.empty }
-        requires theirs { IsSome (page_in (state_of self.old) from other) }
-        requires away { IsAway (state_of self.old) space from other }
-        requires sees { (x y : PageState) → page_in (state_of self.old) space page ≡ Some x
-            → page_in (state_of self.old) from other ≡ Some y → SeesFrame lines x y }
-        ensures { IsRebased (state_of self.old) (state_of self.new) space page from other lines }
+    /// A page that was found and is alone comes onto the frame of another one, on which no page of its space is unless it is the zero
+    /// frame: with these lines as its own, at most 31, and as it is seen. All its other lines are in that frame already. No page of its
+    /// space awaits. Takes no memory. Looks nothing up but what changes. Costs two copies of each of these lines, and moves that copy 60
+    /// lines at most.
+    pub fn rebase_found(&mut self, page: &FoundPage, theirs: &FoundPage, lines: Bits)
+        requires found { IsFoundPage self.old.table page.now }
+        requires theirs { IsFoundPage self.old.table theirs.now }
+        requires few { length lines ≤ MOST_OWN }
+        requires alone { is_alone (books (state_of self.old)) page.now.space page.now.page ≡ true }
+        requires none_awaits { (space_in (state_of self.old) page.now.space).awaiting ≡ map.empty }
+        requires away { IsAway (state_of self.old) page.now.space theirs.now.space theirs.now.page }
+        requires sees { (x y : PageState) → page_in (state_of self.old) page.now.space page.now.page ≡ Some x
+            → page_in (state_of self.old) theirs.now.space theirs.now.page ≡ Some y → SeesFrame lines x y }
+        ensures { IsRebased (state_of self.old) (state_of self.new) page.now.space page.now.page
+            theirs.now.space theirs.now.page lines }
     {
+        let mut kept = [[0; 64]; MOST_OWN as usize];
+        keep_lines(self, page, lines, &mut kept);
         rebase(
             &mut self.store,
             &mut self.ledger,
-            space,
             page,
-            from,
-            other,
+            theirs,
             lines,
+            &kept,
         );
     }
 

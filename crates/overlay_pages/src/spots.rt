@@ -6,6 +6,10 @@ ghost use Rattle.std.specs.Prelude.{◌≡◌, ℕ, ◌+◌, ◌<◌, ◌≤◌,
 ghost use Rattle.sizes.specs.declared.TheConstants.{FRAME_UNITS, PAGE_LINES};
 ghost use Rattle.overlay_bits.specs.Lines.{with_line};
 ghost use Rattle.overlay_mapping_table.specs.declared.entry.Entry.{Entry};
+ghost use Rattle.std.specs.Option.{option_map};
+ghost use Rattle.ledger.specs.Ledger.{is_alone};
+ghost use Rattle.overlay_pages.specs.State.{books};
+ghost use Rattle.space_maps.specs.Spaces.{page_in, space_in};
 ghost use Rattle.space_ledger.specs.View.{lines_of, overlay_at};
 ghost use Rattle.overlay_pages.specs.Changes.{is_writable, units_of, with_brought};
 ghost use Rattle.overlay_pages.specs.Spots.{IsFoundAt, IsFoundPage};
@@ -14,6 +18,7 @@ ghost use Rattle.overlay_pages.specs.View.{IsJoined, MemoryView, state_of};
 use overlay_bits::Bits;
 use overlay_mapping_table::Entry;
 use ovl_io::Perms;
+use page_table::PageEntry;
 use space_ledger::class_of;
 use unit_map::Block;
 
@@ -84,6 +89,17 @@ impl FoundPage {
         self.own.has(line) || self.in_frame
     }
 
+    /// Whether it is alone, where its space isn't speculating: its frame isn't the zero frame, and no other page of any space names it.
+    /// Costs a step.
+    #[inline]
+    pub fn is_alone(&self) -> bool
+        ensures { (view : MemoryView) → IsFoundPage view.table self.now
+            → (space_in (state_of view) self.now.space).speculating ≡ false
+            → result ≡ is_alone (books (state_of view)) self.now.space self.now.page }
+    {
+        self.in_frame
+    }
+
     /// By how many units all pages rise where a line of it that can't be written where it stands is brought. Costs a step.
     #[inline(always)]
     pub(crate) fn rise(&self) -> u32
@@ -110,6 +126,42 @@ impl FoundPage {
                 bits: self.own,
                 block: self.block,
             })
+        }
+    }
+
+    /// Its permissions and its frame.
+    #[inline]
+    pub(crate) fn entry(&self) -> PageEntry
+        ensures { (view : MemoryView) → IsFoundPage view.table self.now
+            → Some result ≡ option_map (λ x. x.entry) (page_in view.table self.now.space self.now.page) }
+    {
+        PageEntry {
+            perms: self.perms,
+            frame: self.frame,
+        }
+    }
+
+    /// It on another frame, without own lines.
+    #[inline]
+    pub(crate) fn on_frame(&self, frame: u32, in_frame: bool) -> FoundPage
+        ensures { result ≡ record {
+          space = self.now.space;
+          page = self.now.page;
+          perms = self.now.perms;
+          frame = frame;
+          own = [];
+          block = self.now.block;
+          in_frame = in_frame;
+        } }
+    {
+        FoundPage {
+            space: self.space,
+            page: self.page,
+            perms: self.perms,
+            frame,
+            own: Bits::empty(),
+            block: self.block,
+            in_frame,
         }
     }
 

@@ -5,7 +5,7 @@ use Rattle.machine_core.specs.Laws.{like_back, like_chain}
 use Rattle.report_text.specs.declared.answer.Stop.{Stop}
 use Rattle.report_text.specs.Answers.{stop_text}
 use Rattle.command_core.specs.State.{AreLikeStates, State}
-use Rattle.command_core.specs.Turns.{EndsRun, InRun, Speaks, left_of, ran_text}
+use Rattle.process_runs.specs.Turns.{EndsRun, InRun, Speaks, left_of, ran_text}
 use Rattle.command_core.specs.Commands.{takes_left}
 
 -- One line of turns, and their last, by equal breakpoints.

@@ -1,7 +1,7 @@
 use Rattle.std.proofs.Common.{◌≡◌, ℕ, List, ◌++◌, ap, subst, ◌∙◌, refl, Result, Ok, Err}
 use Rattle.ovl_io.specs.declared.sink.Sink.{Ghosts as SinkOf}
 use Rattle.report_text.specs.declared.answer.Answer.{Answer}
-use Rattle.report_text.specs.declared.answer.Answer.TheVariants.{Done, Loaded, Forked, Saved, Refused, Full, Memory}
+use Rattle.report_text.specs.declared.answer.Answer.TheVariants.{Done, Loaded, Forked, Saved, Shared, Refused, Full, Memory}
 use Rattle.report_text.specs.Answers.{answer_text}
 use Rattle.command_core.specs.State.{AreLikeStates, State, registry_of}
 use Rattle.command_core.specs.Sessions.{InSession}
@@ -22,22 +22,29 @@ given_is row old Done new gives other = gives
 given_is row old (Loaded p pages entry) new gives other = gives
 given_is row old (Forked p q) new gives other = gives
 given_is row old (Saved p name space) new gives other = gives
+given_is row old (Shared pages) new gives other = gives
 given_is row old (Refused code) new gives other = gives
 given_is row old (Full units limit) new gives other = gives
 given_is row old Memory new gives other = absurd (other refl)
 
 -- a load's line and the turns that follow it are those of what it was to give
-pub exec_like : (file : List ℕ) (turns : ℕ) (old : State) (answer : Answer) (new : State) → GivesChange (load_row file (registry_of old)) old answer new → (answer ≡ Memory → ⊥)
-    → AreLikePerformed (tells_exec rules turns answer new) (exec_done rules file turns old)
-exec_like file turns old answer new gives other =
+exec_with : (calls : Bool) (file : List ℕ) (turns : ℕ) (old : State) (answer : Answer) (new : State) → GivesChange (load_row file (registry_of old)) old answer new → (answer ≡ Memory → ⊥)
+    → AreLikePerformed (tells_exec rules calls turns answer new) (exec_done rules calls file turns old)
+exec_with calls file turns old answer new gives other =
     let wanted : Changed State = change_by (load_row file (registry_of old)) old in
     let comes = given_is (load_row file (registry_of old)) old answer new gives other in
-    let next = like_exec_turns turns answer new wanted.after comes.after_is in
+    let next = like_exec_turns calls turns answer new wanted.after comes.after_is in
     record {
-      text = ap (λ text. answer_text answer ++ text) next.text ∙ ap (λ a. answer_text a ++ (exec_turns rules turns a wanted.after).text) comes.answer_is;
-      after = subst (λ a. AreLikeStates (exec_turns rules turns answer new).after (exec_turns rules turns a wanted.after).after) comes.answer_is next.after;
+      text = ap (λ text. answer_text answer ++ text) next.text ∙ ap (λ a. answer_text a ++ (exec_turns rules calls turns a wanted.after).text) comes.answer_is;
+      after = subst (λ a. AreLikeStates (exec_turns rules calls turns answer new).after (exec_turns rules calls turns a wanted.after).after) comes.answer_is next.after;
       wants = refl;
     }
+
+-- where what may be called stays
+pub exec_like : (calls left : Bool) → left ≡ calls → (file : List ℕ) (turns : ℕ) (old : State) (answer : Answer) (new : State) → GivesChange (load_row file (registry_of old)) old answer new
+    → (answer ≡ Memory → ⊥) → AreLikePerformed (tells_exec rules left turns answer new) (exec_done rules calls file turns old)
+exec_like calls left same file turns old answer new gives other =
+    subst (λ b. AreLikePerformed (tells_exec rules b turns answer new) (exec_done rules calls file turns old)) (sym same) (exec_with calls file turns old answer new gives other)
 
 -- what was sent and done, as a command
 module _ {K E : Type 0} (k : SinkOf K) (sink_old sink_new : K) (took wanted : Performed State) (old new : InSession) (text : took.text ≡ wanted.text) where

@@ -54,23 +54,26 @@ set_by words matches found = rw found.0 (ap settings_in (sym found.1))
 
 -- What the options set, by the values that were looked up.
 
-pub values_set : (matches : ArgMatches) (first second third fourth : Option Text) (frames quantum : Option ℕ) (seed : Option (Option ℕ)) (extension : Bool)
+pub values_set : (matches : ArgMatches) (first second third fourth fifth : Option Text) (frames quantum : Option ℕ) (seed : Option (Option ℕ)) (extension calls : Bool)
     → first ≡ first_value (found_of matches) (codes "frames") → second ≡ first_value (found_of matches) (codes "quantum")
     → third ≡ first_value (found_of matches) (codes "make") → fourth ≡ first_value (found_of matches) (codes "m")
+    → fifth ≡ first_value (found_of matches) (codes "calls")
     → frames ≡ option_number FRAMES MOST_FRAMES first → quantum ≡ option_number QUANTUM MOST_QUANTUM second → seed ≡ seed_of third
-    → extension ≡ is_set fourth → settings_from frames quantum seed extension ≡ settings_in (rows_of (found_of matches))
-values_set matches first second third fourth frames quantum seed extension is_first is_second is_third is_fourth is_frames is_quantum is_seed is_extension =
+    → extension ≡ is_set fourth → calls ≡ is_set fifth → settings_from frames quantum seed extension calls ≡ settings_in (rows_of (found_of matches))
+values_set matches first second third fourth fifth frames quantum seed extension calls is_first is_second is_third is_fourth is_fifth is_frames is_quantum is_seed is_extension is_calls =
     let row = first_value-rows (found_of matches) in
     let wide : Option ℕ = option_number FRAMES MOST_FRAMES (first_of (codes "frames") (rows_of (found_of matches))) in
     let long : Option ℕ = option_number QUANTUM MOST_QUANTUM (first_of (codes "quantum") (rows_of (found_of matches))) in
     let seeds : Option (Option ℕ) = seed_of (first_of (codes "make") (rows_of (found_of matches))) in
-    ap (λ f. settings_from f quantum seed extension) (is_frames ∙ ap (option_number FRAMES MOST_FRAMES) (is_first ∙ row (codes "frames")))
-    ∙ ap (λ q. settings_from wide q seed extension) (is_quantum ∙ ap (option_number QUANTUM MOST_QUANTUM) (is_second ∙ row (codes "quantum")))
-    ∙ ap (λ s. settings_from wide long s extension) (is_seed ∙ ap seed_of (is_third ∙ row (codes "make")))
-    ∙ ap (settings_from wide long seeds) (is_extension ∙ ap is_set (is_fourth ∙ row (codes "m")))
+    let has_m : Bool = is_set (first_of (codes "m") (rows_of (found_of matches))) in
+    ap (λ f. settings_from f quantum seed extension calls) (is_frames ∙ ap (option_number FRAMES MOST_FRAMES) (is_first ∙ row (codes "frames")))
+    ∙ ap (λ q. settings_from wide q seed extension calls) (is_quantum ∙ ap (option_number QUANTUM MOST_QUANTUM) (is_second ∙ row (codes "quantum")))
+    ∙ ap (λ s. settings_from wide long s extension calls) (is_seed ∙ ap seed_of (is_third ∙ row (codes "make")))
+    ∙ ap (λ m. settings_from wide long seeds m calls) (is_extension ∙ ap is_set (is_fourth ∙ row (codes "m")))
+    ∙ ap (settings_from wide long seeds has_m) (is_calls ∙ ap is_set (is_fifth ∙ row (codes "calls")))
 
-pub set_by_parts : (extension : Bool) {frames frames_is quantum quantum_is : Option ℕ} {seed seed_is : Option (Option ℕ)} → frames ≡ frames_is → quantum ≡ quantum_is → seed ≡ seed_is
-    → settings_from frames quantum seed extension ≡ settings_from frames_is quantum_is seed_is extension
-set_by_parts extension {frames_is = frames_is} {quantum = quantum} {quantum_is = quantum_is} {seed = seed} frames_are quantum_are seed_are =
-    ap (λ f. settings_from f quantum seed extension) frames_are ∙ ap (λ q. settings_from frames_is q seed extension) quantum_are
-    ∙ ap (λ s. settings_from frames_is quantum_is s extension) seed_are
+pub set_by_parts : (extension calls : Bool) {frames frames_is quantum quantum_is : Option ℕ} {seed seed_is : Option (Option ℕ)} → frames ≡ frames_is → quantum ≡ quantum_is → seed ≡ seed_is
+    → settings_from frames quantum seed extension calls ≡ settings_from frames_is quantum_is seed_is extension calls
+set_by_parts extension calls {frames_is = frames_is} {quantum = quantum} {quantum_is = quantum_is} {seed = seed} frames_are quantum_are seed_are =
+    ap (λ f. settings_from f quantum seed extension calls) frames_are ∙ ap (λ q. settings_from frames_is q seed extension calls) quantum_are
+    ∙ ap (λ s. settings_from frames_is quantum_is s extension calls) seed_are

@@ -91,7 +91,7 @@ run_from modes commands state files = run_by rules modes commands state files
 
 -- what the words fix for the run
 abbrev pub modes_of : Settings → Modes
-modes_of settings = record { frames = settings.frames; quantum = settings.quantum; extension = settings.extension }
+modes_of settings = record { frames = settings.frames; quantum = settings.quantum; extension = settings.extension; calls = settings.calls }
 
 -- all commands, from no process
 abbrev pub run_all : Settings → List Command → (List ℕ → Option (List ℕ)) → RunOutcome

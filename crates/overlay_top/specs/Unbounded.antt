@@ -11,7 +11,7 @@ use Rattle.overlay_top.specs.Outcome.{Asking, RunOutcome, modes_of, report_of, r
 use Rattle.overlay_top.specs.Ends.{EndsWith, World}
 
 -- What a call comes to in the unbounded machine, which copies the whole memory at each fork, checkpoint and speculation start, and has no
--- ledger, no frames and no limit. The lines of the commands that are told by the ledger (`stats`) are given.
+-- ledger, no frames and no limit. The lines of the commands that are told by the ledger (`stats`, `dedup`) are given.
 
 abbrev pub run_unbounded : List (List ℕ) → Settings → List Command → (List ℕ → Option (List ℕ)) → RunOutcome
 run_unbounded counts settings commands files = run_by unbounded (modes_of settings) commands (fresh_unbounded settings.extension counts) files

@@ -15,8 +15,8 @@ use Rattle.overlay_top.specs.declared.words.TheConstants.{FRAMES, QUANTUM, MOST_
 use Rattle.overlay_top.specs.declared.words.WordsError.{WordsError}
 use Rattle.overlay_top.specs.declared.words.WordsError.TheVariants.{Refused, Memory}
 
--- The command, as `clap` describes it: three options with a value each, a flag without one, and nothing else; its name isn't among the
--- words.
+-- The command, as `clap` describes it: three options with a value each, two flags without one, and nothing else; its name isn't among
+-- the words.
 abbrev pub option_of : Text → Rule
 option_of name = record (new_rule name) { long = Some name; action = Some Set }
 
@@ -25,8 +25,9 @@ flag_of name = record (new_rule name) { long = Some name; action = Some SetTrue 
 
 unfoldable pub command_line : App
 command_line =
-    with_rule (with_rule (with_rule (with_rule (on_top (λ shape. record shape { no_binary_name = true; disable_help_flag = true }) (new_app (codes "overlay-run")))
-    (option_of (codes "frames"))) (option_of (codes "quantum"))) (option_of (codes "make"))) (flag_of (codes "m"))
+    with_rule (with_rule (with_rule (with_rule (with_rule (on_top (λ shape. record shape { no_binary_name = true; disable_help_flag = true }) (new_app (codes "overlay-run")))
+    (option_of (codes "frames"))) (option_of (codes "quantum"))) (option_of (codes "make"))) (flag_of (codes "m")))
+    (flag_of (codes "calls"))
 
 -- The number of a text within a range, as Rust's `parse` reads one.
 abbrev pub parsed_in : ℕ → ℕ → Text → Option ℕ
@@ -47,18 +48,18 @@ abbrev pub is_set : Option Text → Bool
 is_set None = false
 is_set (Some text) = bytes_eq text (codes "true")
 
-abbrev pub settings_from : Option ℕ → Option ℕ → Option (Option ℕ) → Bool → Option Settings
-settings_from (Some frames) (Some quantum) (Some seed) extension =
-    Some (record { frames = frames; quantum = quantum; seed = seed; extension = extension })
-settings_from (Some frames) (Some quantum) None extension = None
-settings_from (Some frames) None seed extension = None
-settings_from None quantum seed extension = None
+abbrev pub settings_from : Option ℕ → Option ℕ → Option (Option ℕ) → Bool → Bool → Option Settings
+settings_from (Some frames) (Some quantum) (Some seed) extension calls =
+    Some (record { frames = frames; quantum = quantum; seed = seed; extension = extension; calls = calls })
+settings_from (Some frames) (Some quantum) None extension calls = None
+settings_from (Some frames) None seed extension calls = None
+settings_from None quantum seed extension calls = None
 
 -- What the options set, by the values that `clap` found.
 abbrev pub settings_in : List Row → Option Settings
 settings_in rows =
     settings_from (option_number FRAMES MOST_FRAMES (first_of (codes "frames") rows)) (option_number QUANTUM MOST_QUANTUM (first_of (codes "quantum") rows))
-    (seed_of (first_of (codes "make") rows)) (is_set (first_of (codes "m") rows))
+    (seed_of (first_of (codes "make") rows)) (is_set (first_of (codes "m") rows)) (is_set (first_of (codes "calls") rows))
 
 -- What words set, where they are the command's.
 unfoldable pub settings_of : List Text → Option Settings

@@ -4,9 +4,9 @@ ghost use Rattle.script_text.specs.Given.{IsGiven, asks};
 ghost use Rattle.script_text.specs.declared.TheConstants.{MOST_WORDS};
 ghost use Rattle.sizes.specs.declared.TheConstants.{MOST_FILE_BYTES};
 ghost use Rattle.report_text.specs.Answers.{HasAnswerLine, answer_text};
-ghost use Rattle.command_core.specs.Changes.{CanBeTold};
+ghost use Rattle.command_core.specs.Changes.{CanBeTold, row_in};
 ghost use Rattle.command_core.specs.State.{registry_of};
-ghost use Rattle.command_core.specs.Commands.{RunsLoaded, asm_told, change_told, checkpoints_text, disasm_done, dump_done, exec_done, exec_turns, list_text, load_told, performed_in, processes_text, registers_text, regs_done, rules, run_done, stats_text, step_done, takes_left, tells_exec, register_value};
+ghost use Rattle.command_core.specs.Commands.{RunsLoaded, asm_told, checkpoints_text, disasm_done, dump_done, exec_done, exec_turns, list_text, load_told, performed_in, processes_text, registers_text, regs_done, row_told, rules, run_done, stats_text, step_done, takes_left, tells_exec, register_value};
 ghost use Rattle.overlay_top.specs.Sending.{SendsText};
 ghost use Rattle.overlay_top.specs.Printing.{view_text};
 ghost use Rattle.overlay_top.specs.Running.{DoesCommand, TakesOn, TellsAnswer};
@@ -98,7 +98,7 @@ fn turns_of_loaded<K: Sink>(
 ) -> Result<(), Failed>
     requires { RunsLoaded answer.now session.old.state }
     ensures takes { TakesOn K.Sink report.old.sink.now report.new.sink.now
-        (exec_turns rules turns answer.now session.old.state) session.old session.new result }
+        (exec_turns rules session.old.modes.calls turns answer.now session.old.state) session.old session.new result }
     ensures same { report.new.sink.ghost_name ≡ report.old.sink.ghost_name }
 {
     match answer {
@@ -112,6 +112,7 @@ fn turns_of_loaded<K: Sink>(
         Answer::Done => Ok(()),
         Answer::Forked(_, _) => Ok(()),
         Answer::Saved(_, _, _) => Ok(()),
+        Answer::Shared(_) => Ok(()),
         Answer::Refused(_) => Ok(()),
         Answer::Full(_, _) => Ok(()),
         Answer::Memory => Ok(()),
@@ -128,7 +129,7 @@ fn tell_loaded<K: Sink>(
     requires told { HasAnswerLine answer.now }
     requires runs { RunsLoaded answer.now session.old.state }
     ensures takes { TakesOn K.Sink report.old.sink.now report.new.sink.now
-        (tells_exec rules turns answer.now session.old.state) session.old session.new result }
+        (tells_exec rules session.old.modes.calls turns answer.now session.old.state) session.old session.new result }
     ensures same { report.new.sink.ghost_name ≡ report.old.sink.ghost_name }
 {
     match send_answer(answer, report) {
@@ -145,7 +146,7 @@ fn exec<K: Sink>(
     report: &mut Report<K>,
 ) -> Result<(), Halt>
     ensures does { DoesCommand K.Sink report.old.sink.now report.new.sink.now
-        (exec_done rules file.now turns session.old.state) session.old session.new result }
+        (exec_done rules session.old.modes.calls file.now turns session.old.state) session.old session.new result }
     ensures same { report.new.sink.ghost_name ≡ report.old.sink.ghost_name }
 {
     let answer = session.load(file);
@@ -166,7 +167,7 @@ fn step<K: Sink>(
     report: &mut Report<K>,
 ) -> Result<(), Failed>
     ensures takes { TakesOn K.Sink report.old.sink.now report.new.sink.now
-        (step_done rules p turns session.old.state) session.old session.new result }
+        (step_done rules session.old.modes.calls p turns session.old.state) session.old session.new result }
     ensures same { report.new.sink.ghost_name ≡ report.old.sink.ghost_name }
 {
     match session.begin_step(p, turns) {
@@ -181,7 +182,7 @@ fn step<K: Sink>(
 /// Gives processes so many turns, by round robin.
 fn run_all<K: Sink>(session: &mut Session, turns: u32, report: &mut Report<K>) -> Result<(), Failed>
     ensures takes { TakesOn K.Sink report.old.sink.now report.new.sink.now
-        (run_done rules session.old.modes.quantum turns session.old.state) session.old session.new result }
+        (run_done rules session.old.modes.quantum session.old.modes.calls turns session.old.state) session.old session.new result }
     ensures same { report.new.sink.ghost_name ≡ report.old.sink.ghost_name }
 {
     let mut running = session.begin_run(turns);
@@ -197,7 +198,8 @@ fn change<K: Sink>(
     requires asks { asks command.now ≡ None }
     requires given { IsGiven command.now }
     ensures does { DoesCommand K.Sink report.old.sink.now report.new.sink.now
-        (change_told rules [] command.now session.old.state) session.old session.new result }
+        (row_told rules (row_in [] command.now session.old.state) session.old.state)
+        session.old session.new result }
     ensures same { report.new.sink.ghost_name ≡ report.old.sink.ghost_name }
 {
     let answer = session.change(command);
@@ -417,6 +419,8 @@ pub(crate) fn do_command<K: Sink>(
         | Command::Discard(_)
         | Command::Promote(_, _)
         | Command::PromoteAll(_)
+        | Command::Dedup(_, _, _, _)
+        | Command::DedupAll(_, _)
         | Command::Compact
         | Command::Map(_, _, _, _)
         | Command::Unmap(_, _, _)

@@ -136,6 +136,7 @@ pub(crate) fn run<H: Shelf, K: Sink>(
 {
     let mut session = Session::new(alloc, settings.frames, settings.quantum)?;
     session.set_extension(settings.extension);
+    session.set_calls(settings.calls);
     'running: for command in commands {
         perform(alloc, &mut session, command, shelf, report)?;
     }

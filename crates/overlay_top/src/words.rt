@@ -27,6 +27,8 @@ pub struct Settings {
     pub seed: Option<u64>,
     /// Whether the machine has extension M: multiplication and division.
     pub extension: bool,
+    /// Whether processes may speculate by themselves.
+    pub calls: bool,
 }
 
 /// Why words give no settings.
@@ -74,7 +76,8 @@ fn command<'a>(alloc: Global) -> Result<Command<'a>, AllocError>
         .arg(option(alloc, "frames"))?
         .arg(option(alloc, "quantum"))?
         .arg(option(alloc, "make"))?
-        .arg(flag(alloc, "m"))
+        .arg(flag(alloc, "m"))?
+        .arg(flag(alloc, "calls"))
 }
 
 /// The number of an option, from 1 on: the default where it isn't given, and none where its value is no number of the range.
@@ -144,11 +147,13 @@ fn settings_in(matches: &ArgMatches<'_>) -> Option<Settings>
     let quantum = number(matches.get_str("quantum"), QUANTUM, MOST_QUANTUM);
     let seed = seed_from(matches.get_str("make"));
     let extension = is_set(matches.get_str("m"));
+    let calls = is_set(matches.get_str("calls"));
     Some(Settings {
         frames: frames?,
         quantum: quantum?,
         seed: seed?,
         extension,
+        calls,
     })
 }
 

@@ -1,12 +1,14 @@
 //! One page, or all of a space.
 
-ghost use Rattle.std.specs.Prelude.{◌≡◌, ◌+◌, ◌<◌, false, true, IsSome, OnOk, is_some};
-ghost use Rattle.sizes.specs.declared.TheConstants.{PAGE_END};
+ghost use Rattle.std.specs.Prelude.{◌≡◌, ◌+◌, ◌<◌, false, true, IfSome, IsSome, OnOk};
+ghost use Rattle.sizes.specs.declared.TheConstants.{MOST_FRAMES, PAGE_END};
 ghost use Rattle.std.specs.Option.{option_map};
 ghost use Rattle.ledger.specs.Changes.{is_origin_here};
 ghost use Rattle.ledger.specs.Ledger.{holding_at};
 ghost use Rattle.overlay_memory.specs.Translated.{KeepsOtherTranslations};
 ghost use Rattle.overlay_memory.specs.View.{NoneAwaits, state_of, translations_of};
+ghost use Rattle.overlay_pages.specs.Changes.{frame_but_zero};
+ghost use Rattle.overlay_pages.specs.Spots.{IsFoundPage};
 ghost use Rattle.overlay_pages.specs.State.{books};
 ghost use Rattle.page_dedup.specs.Deduplicated.{Deduplicates, HasShared, SharesOne, has_origin_at};
 ghost use Rattle.page_dedup.specs.Marked.{AreMarks};
@@ -15,23 +17,8 @@ ghost use Rattle.translation_cache.specs.Translations.{flushed};
 
 use crate::error::DedupError;
 use crate::marks::{MARKS, has_mark, mark, mark_frames};
-use overlay_memory::OverlayMemory;
-
-/// The most lines that a page may have of its own on the frame of another one.
-const MOST_APART: u32 = 31;
-
-/// How many lines a page has.
-const LINES: u32 = 64;
-
-// Whether a page is there.
-fn has_page(mem: &OverlayMemory, space: u16, page: u64) -> bool
-    ensures { result ≡ is_some (page_in (state_of mem.now) space page) }
-{
-    match mem.next_page(space, page) {
-        Some(found) => found == page,
-        None => false,
-    }
-}
+use overlay_memory::{FoundPage, MOST_OWN, OverlayMemory};
+use sizes::PAGE_LINES;
 
 // Whether a page is on a frame, which isn't the zero frame.
 fn is_on(mem: &OverlayMemory, space: u16, page: u64, frame: u32) -> bool
@@ -62,18 +49,19 @@ fn has_frame(mem: &OverlayMemory, space: u16, from: u16, other: u64, frame: u32)
     false
 }
 
-// Whether some page of a space is on the frame of a page of another one, and that isn't the zero frame. A page that is alone shares its
-// frame with none.
-fn is_frame_here(mem: &OverlayMemory, space: u16, from: u16, other: u64) -> bool
-    requires theirs { IsSome (page_in (state_of mem.now) from other) }
-    ensures { result ≡ is_origin_here (books (state_of mem.now)) space from other }
+// Whether some page of a space is on the frame of a page of another one that was found, and that isn't the zero frame. A page that is alone
+// shares its frame with none.
+fn is_frame_here(mem: &OverlayMemory, space: u16, theirs: &FoundPage) -> bool
+    requires theirs { IsFoundPage mem.now.pages.table theirs.now }
+    requires settled { (space_in (state_of mem.now) theirs.now.space).speculating ≡ false }
+    ensures { result ≡ is_origin_here (books (state_of mem.now)) space theirs.now.space theirs.now.page }
 {
-    match mem.frame_of(from, other) {
+    match mem.frame_of_found(theirs) {
         Some(frame) => {
-            if from != space && mem.is_alone(from, other) {
+            if theirs.space != space && theirs.is_alone() {
                 return false;
             }
-            has_frame(mem, space, from, other, frame)
+            has_frame(mem, space, theirs.space, theirs.page, frame)
         }
         None => false,
     }
@@ -101,25 +89,36 @@ pub fn deduplicate(
     ensures translations { OnOk result
         (translations_of mem.new ≡ flushed space (translations_of mem.old)) }
 {
-    if !mem.is_alone(space, page) {
+    let found = mem.find_page(space, page);
+    if !found.is_alone() {
         return Err(DedupError::NotAlone);
     }
-    if is_frame_here(mem, space, from, other) {
+    let theirs = mem.find_page(from, other);
+    if is_frame_here(mem, space, &theirs) {
         return Err(DedupError::FrameHere);
     }
-    match mem.rebase_if_alike(space, page, from, other, LINES) {
+    match mem.rebase_found(&found, &theirs, PAGE_LINES as u32) {
         Some(lines) => Err(DedupError::NotAlike(lines)),
         None => Ok(()),
     }
 }
 
-// Whether the frame of a page of a space that is there is marked; the zero frame isn't.
-fn is_marked(mem: &OverlayMemory, from: u16, page: u64, space: u16, marks: &[bool; MARKS]) -> bool
-    requires theirs { IsSome (page_in (state_of mem.now) from page) }
+// Whether the frame of a page of a space that is there, and has this frame unless it is the zero frame, is marked; the zero frame isn't.
+fn is_marked(
+    mem: &OverlayMemory,
+    from: u16,
+    page: u64,
+    frame: Option<u32>,
+    space: u16,
+    marks: &[bool; MARKS],
+) -> bool
+    requires frame { option_map (λ x. frame_but_zero (state_of mem.now).zero_frame x.entry.frame)
+        (page_in (state_of mem.now) from page) ≡ Some frame }
+    requires low { IfSome frame (λ f. f < MOST_FRAMES) }
     requires marks { AreMarks (books (state_of mem.now)) space marks.now }
     ensures { result ≡ is_origin_here (books (state_of mem.now)) space from page }
 {
-    match mem.frame_of(from, page) {
+    match frame {
         Some(frame) => has_mark(marks, frame),
         None => false,
     }
@@ -144,23 +143,25 @@ fn share_one(
     ensures low { page < PAGE_END }
 {
     let _here = mem.has_space(space);
-    if !has_page(mem, from, page) {
+    if !mem.has_page(from, page) {
         return false;
     }
-    if !mem.is_alone(space, page) {
+    let found = mem.find_page(space, page);
+    if !found.is_alone() {
         return false;
     }
-    if is_marked(mem, from, page, space, marks) {
+    let theirs = mem.find_page(from, page);
+    let frame = mem.frame_of_found(&theirs);
+    if is_marked(mem, from, page, frame, space, marks) {
         return false;
     }
-    let own = mem.frame_of(space, page);
-    let theirs = mem.frame_of(from, page);
-    match mem.rebase_if_alike(space, page, from, page, MOST_APART) {
+    let own = mem.frame_of_found(&found);
+    match mem.rebase_found(&found, &theirs, MOST_OWN) {
         Some(_) => return false,
         None => {}
     }
     mark(marks, own, false);
-    mark(marks, theirs, true);
+    mark(marks, frame, true);
     true
 }
 

@@ -19,8 +19,8 @@ use Rattle.overlay_memory.specs.Joined.{IsBare, all_bare}
 use Rattle.overlay_memory.specs.PageLaws.{held_there, own_is, some_is}
 use Rattle.overlay_memory.specs.Room.{FitsAfter, IsFullAt, IsShort, class_at, event_units}
 use Rattle.overlay_memory.specs.declared.error.Shortage.{Shortage}
-use Rattle.space_maps.specs.Laws.{changed_there, same_spaces}
-use Rattle.space_maps.specs.Spaces.{holds_space, page_in, put_mark, put_page, put_space, space_in, altered_page}
+use Rattle.space_maps.specs.Laws.{changed_there}
+use Rattle.space_maps.specs.Spaces.{page_in, put_page, altered_page}
 use Rattle.promotion.specs.Counted.{new_frame_at}
 use Rattle.promotion.specs.Settled.{AreInFrames, IsAfter, alone_in, mark_of}
 use Rattle.promotion.specs.Promoted.{HasPromoted, one_page}
@@ -200,9 +200,3 @@ module _ (m : TranslatedView) (space page n : ℕ) (own : List ℕ) (count segme
       over = short.over;
       kept = refl;
     }
-
--- The mark that a space has, put in again.
-pub mark_again : (v : State) (s : ℕ) (on : Bool) → holds_space v s ≡ true → (space_in v s).speculating ≡ on → put_mark v s on ≡ v
-unfolding put_mark
-mark_again v s on there is =
-    ap (λ (b : Bool). put_space v s (record { pages = (space_in v s).pages; awaiting = (space_in v s).awaiting; speculating = b })) (sym is) ∙ same_spaces v s there

@@ -9,10 +9,7 @@ ghost use Rattle.overlay_memory.specs.Translated.{KeepsOtherTranslations};
 ghost use Rattle.space_maps.specs.Spaces.{holds_space};
 ghost use Rattle.promotion.specs.Settled.{CommitsPage, HasCommittedPages};
 
-use overlay_memory::OverlayMemory;
-
-/// As many own lines as make a segment as large as a frame.
-const LARGE_LINES: u32 = 32;
+use overlay_memory::{LARGE_LINES, OverlayMemory};
 
 // A page with own lines gets them into its frame where it is alone, and a new frame with its lines where it isn't, and has 32 of
 // them or more. The units become no more.

@@ -1,4 +1,4 @@
-ghost use Rattle.std.specs.Prelude.{◌≡◌, ◌<◌, ◌^◌, false, true, IsSome, OnOk, is_some};
+ghost use Rattle.std.specs.Prelude.{◌≡◌, ◌<◌, ◌^◌, false, true, IsSome, OnOk};
 ghost use Rattle.overlay_memory.specs.Translated.{KeepsOtherTranslations};
 ghost use Rattle.overlay_memory.specs.View.{NoneAwaits, state_of, translations_of};
 ghost use Rattle.space_maps.specs.Spaces.{holds_space, page_in, space_in};
@@ -9,16 +9,6 @@ use crate::error::PromoteError;
 use crate::settling::settle;
 use overlay_memory::{OverlayMemory, Shortage, class_of};
 use sizes::{FRAME_UNITS, PAGE_BYTES};
-
-// Whether a page is there.
-fn has_page(mem: &OverlayMemory, space: u16, page: u64) -> bool
-    ensures { result ≡ is_some (page_in (state_of mem.now) space page) }
-{
-    match mem.next_page(space, page) {
-        Some(found) => found == page,
-        None => false,
-    }
-}
 
 // Settles a page that is there.
 fn settle_page(mem: &mut OverlayMemory, space: u16, page: u64) -> Result<(), Shortage>
@@ -44,15 +34,6 @@ fn settle_page(mem: &mut OverlayMemory, space: u16, page: u64) -> Result<(), Sho
     Ok(())
 }
 
-// Removes the translations of a space, whose mark stays.
-fn forget_translations(mem: &mut OverlayMemory, space: u16)
-    requires there { holds_space (state_of mem.old) space ≡ true }
-    ensures state { state_of mem.new ≡ state_of mem.old }
-    ensures translations { translations_of mem.new ≡ flushed space (translations_of mem.old) }
-{
-    mem.set_speculating(space, mem.is_speculating(space));
-}
-
 /// Settles a page: one without own lines stays; the own lines of one that is alone go into its frame; any other gets a new frame
 /// with its lines. The space is there, and no page of it awaits; the page is below 2^52. Speculating exactly where the space is,
 /// else Unmapped with the page's address exactly where it isn't there, else Full exactly where the units after it would exceed the
@@ -69,12 +50,12 @@ pub fn promote(mem: &mut OverlayMemory, space: u16, page: u64) -> Result<(), Pro
     if mem.is_speculating(space) {
         return Err(PromoteError::Speculating);
     }
-    if !has_page(mem, space, page) {
+    if !mem.has_page(space, page) {
         return Err(PromoteError::Unmapped(page * PAGE_BYTES as u64));
     }
     match settle_page(mem, space, page) {
         Ok(()) => {
-            forget_translations(mem, space);
+            mem.forget_translations(space);
             Ok(())
         }
         Err(shortage) => Err(PromoteError::Full(shortage.needed, shortage.limit)),
@@ -97,7 +78,7 @@ pub fn promote_all(mem: &mut OverlayMemory, space: u16) -> Result<(), PromoteErr
     }
     match settle(mem, space) {
         Ok(()) => {
-            forget_translations(mem, space);
+            mem.forget_translations(space);
             Ok(())
         }
         Err(shortage) => Err(PromoteError::Full(shortage.needed, shortage.limit)),

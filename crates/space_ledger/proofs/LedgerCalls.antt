@@ -118,6 +118,11 @@ module _ {v : LedgerView} {counts less : List ℕ} {u n : ℕ} (kept : IsBooked 
         joined : (b : Bool) (g : ℕ) → ◌≡◌ {A = Option ℕ} (option_and_then (λ (m : ℕ). cond (f == m) None (Some m)) (cond b (Some g) None)) (cond (b && not (f == g)) (Some g) None)
         joined b g = grind (arith, nat_tests)
 
+-- an entry that is known, of what is kept
+pub entry_known : (v w : LedgerView) (s p : ℕ) (e : PageEntry) → v ≡ w → Some e ≡ option_map (λ (x : PageView). x.entry) (page_in w s p)
+    → Some e ≡ option_map (λ (x : PageView). x.entry) (page_in v s p)
+entry_known v w s p e same is = is ∙ sym (ap (λ (m : LedgerView). option_map (λ (x : PageView). x.entry) (page_in m s p)) same)
+
 -- an entry with another frame
 pub entry_is_frame : (v : LedgerView) (s p f : ℕ) (e : PageEntry) → Some e ≡ option_map (λ (x : PageView). x.entry) (page_in v s p)
     → with_entry_at v s p (record { perms = e.perms; frame = f }) ≡ with_frame v s p f

@@ -280,35 +280,40 @@ impl SpaceLedger {
         ensures framed { self.new ≡ with_frame self.old space page frame }
         ensures freed { result ≡ given_up self.new (page_in self.old space page) }
     {
-        let zero = self.tables.zero();
         match self.tables.entry(space, page) {
-            Some(old) => {
-                let perms = old.perms;
-                self.tables
-                    .set_entry(space, page, PageEntry { perms, frame });
-                let freed = release(&mut self.pool, zero, old.frame);
-                let added = hold(&mut self.pool, zero, frame);
-                self.units = self.units - freed + added;
-                other_frame(freed_frame(freed, old.frame), frame)
-            }
+            Some(old) => self.replace_frame(space, page, old, frame),
             None => unreachable!(),
         }
     }
 
-    /// A page that is there has the lines and the block of an entry, which has a line, or no own lines any more. It is overlaid,
-    /// or fewer than 16 pages for each frame are. Takes no memory, and costs a look-up.
-    pub fn set_overlay(&mut self, space: u16, page: u64, entry: Option<Entry>)
-        requires there { IsSome (page_in self.old space page) }
-        requires lined { IfSome entry (λ e. 0 < length e.bits) }
-        requires room { HasOverlayRoom self.old space page entry }
-        ensures { self.new ≡ with_overlay self.old space page entry }
+    /// As `set_frame`, where the entry that the page has is known. Takes no memory, and costs no look-up but that of its place.
+    pub fn replace_frame(
+        &mut self,
+        space: u16,
+        page: u64,
+        old: PageEntry,
+        frame: u32,
+    ) -> Option<u32>
+        requires there { Some old ≡ option_map (λ x. x.entry) (page_in self.old space page) }
+        requires none_awaits { (space_in self.old space).awaiting ≡ map.empty }
+        requires inside { frame < self.old.frames }
+        requires free { IsFreeFor self.old space page frame }
+        ensures framed { self.new ≡ with_frame self.old space page frame }
+        ensures freed { result ≡ given_up self.new (page_in self.old space page) }
     {
-        let overlay = self.tables.overlay(space, page);
-        self.replace_overlay(space, page, overlay, entry);
+        let zero = self.tables.zero();
+        let perms = old.perms;
+        self.tables
+            .set_entry(space, page, PageEntry { perms, frame });
+        let freed = release(&mut self.pool, zero, old.frame);
+        let added = hold(&mut self.pool, zero, frame);
+        self.units = self.units - freed + added;
+        other_frame(freed_frame(freed, old.frame), frame)
     }
 
-    /// As `set_overlay`, where the overlay that the page has, or that it has none, is known. Takes no memory, and costs a look-up where
-    /// there is one.
+    /// A page that is there has the lines and the block of an entry, which has a line, or no own lines any more. The overlay that it has, or
+    /// that it has none, is known; where it has none, fewer than 16 pages for each frame are overlaid. Takes no memory, and costs a look-up
+    /// where there is one.
     #[inline(always)]
     pub fn replace_overlay(
         &mut self,

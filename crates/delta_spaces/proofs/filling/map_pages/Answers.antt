@@ -12,7 +12,7 @@ map_zero-requires-clause-absent c =
     let so = mapping_at r.before (state_of c.mapping.mem) c.args.base c.args.to c.args.pages.now c.mapping.page-index c.page-item.result c.page-item.result
     c.mapping-test.true c.page-item.is (c.mapping.invariant.so r) in
     is_absent r.before (state_of c.mapping.mem) c.args.base c.args.to c.args.pages.now _ _ c.page-item.result r.differ (none_held r.before c.args.to r.bare) r.ascend so
-    (sym c.has_page.ensures ∙ c.if-not-has_page.true)
+    (sym c.has_page.ensures.there ∙ c.if-not-has_page.true)
 
 pub map_zero-requires-clause-low : goal.map_zero-requires-clause-low
 map_zero-requires-clause-low c =
@@ -20,7 +20,7 @@ map_zero-requires-clause-low c =
     let so = mapping_at r.before (state_of c.mapping.mem) c.args.base c.args.to c.args.pages.now c.mapping.page-index c.page-item.result c.page-item.result
     c.mapping-test.true c.page-item.is (c.mapping.invariant.so r) in
     low_page r.before (state_of c.mapping.mem) c.args.base c.args.to c.args.pages.now _ _ c.page-item.result r.differ (none_held r.before c.args.to r.bare) r.ascend so
-    (sym c.has_page.ensures ∙ c.if-not-has_page.true)
+    (sym c.has_page.ensures.there ∙ c.if-not-has_page.true)
 
 pub map_zero-requires-clause-few : goal.map_zero-requires-clause-few
 map_zero-requires-clause-few c =
@@ -28,7 +28,7 @@ map_zero-requires-clause-few c =
     let so = mapping_at r.before (state_of c.mapping.mem) c.args.base c.args.to c.args.pages.now c.mapping.page-index c.page-item.result c.page-item.result
     c.mapping-test.true c.page-item.is (c.mapping.invariant.so r) in
     few_pages r.before (state_of c.mapping.mem) c.args.base c.args.to c.args.pages.now _ _ c.page-item.result r.differ (none_held r.before c.args.to r.bare) r.ascend so
-    (sym c.has_page.ensures ∙ c.if-not-has_page.true) r.few
+    (sym c.has_page.ensures.there ∙ c.if-not-has_page.true) r.few
 
 pub mapping-preserved : goal.mapping-preserved
 mapping-preserved c = elim c.if-not-has_page.branch [
@@ -39,7 +39,7 @@ mapping-preserved c = elim c.if-not-has_page.branch [
         mapping_next r.before (state_of c.if-not-has_page.mem) c.args.base c.args.to c.args.pages.now c.mapping.page-index c.page-item.result c.page-item.result
         c.mapping-test.true c.page-item.is
         (mapping_more r.before (state_of c.mapping.mem) c.args.base c.args.to c.args.pages.now _ _ c.page-item.result r.differ (none_held r.before c.args.to r.bare) r.ascend so
-        (sym c.has_page.ensures ∙ w.if-not-has_page.true) (state_of c.if-not-has_page.mem) (ap state_of w.mem-is ∙ w.in_ok-map_zero.ensures.mapped));
+        (sym c.has_page.ensures.there ∙ w.if-not-has_page.true) (state_of c.if-not-has_page.mem) (ap state_of w.mem-is ∙ w.in_ok-map_zero.ensures.mapped));
     lists = ap translations_of w.mem-is ∙ w.in_ok-map_zero.ensures.translations ∙ ap (flushed c.args.to) c.mapping.invariant.lists ∙ c.requires.unseen;
   }
   | else-not-has_page w ↦ record {
@@ -50,7 +50,7 @@ mapping-preserved c = elim c.if-not-has_page.branch [
         c.mapping-test.true c.page-item.is
         (mapping_as r.before (state_of c.mapping.mem) (state_of c.if-not-has_page.mem) c.args.base c.args.to c.args.pages.now _ _ (ap state_of w.mem-is)
         (mapping_past r.before (state_of c.mapping.mem) c.args.base c.args.to c.args.pages.now _ _ c.page-item.result r.differ (none_held r.before c.args.to r.bare) r.ascend so
-        (sym c.has_page.ensures ∙ w.if-not-has_page.false)));
+        (sym c.has_page.ensures.there ∙ w.if-not-has_page.false)));
     lists = ap translations_of w.mem-is ∙ c.mapping.invariant.lists;
   }
 ]

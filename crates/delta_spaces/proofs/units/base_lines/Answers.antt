@@ -8,4 +8,4 @@ returns-then-has_page c = base_own (state_of c.args.mem.now) c.args.base c.args.
 
 pub returns-else-has_page : goal.returns-else-has_page
 returns-else-has_page c =
-    c.empty.ensures ∙ no_own (state_of c.args.mem.now) c.args.base c.args.page (sym c.has_page.ensures ∙ c.if-has_page.false)
+    c.empty.ensures ∙ no_own (state_of c.args.mem.now) c.args.base c.args.page (sym c.has_page.ensures.there ∙ c.if-has_page.false)

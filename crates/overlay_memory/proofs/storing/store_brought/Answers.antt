@@ -7,7 +7,7 @@ use Rattle.overlay_pages.specs.Spots.{IsBroughtTo, IsFoundPageAt}
 use Rattle.overlay_memory.specs.Fronts.{AreFronts}
 use Rattle.overlay_memory.specs.Pieces.{IsFilled}
 use Rattle.overlay_memory.proofs.Fronting.{brought_fronts, filled_fronts, line_there, none_known, of_line}
-use Rattle.overlay_memory.proofs.InOne.{brought_at, is_apart, line_allowed, line_fits, line_here, line_room, line_full, line_stays, line_stored, line_writable}
+use Rattle.overlay_memory.proofs.InOne.{brought_at, is_apart, line_allowed, line_fits, line_room, line_full, line_stays, line_stored, line_writable}
 use Rattle.overlay_memory.proofs.InOne as one
 use Rattle.overlay_memory.proofs.Truths.{filled_true}
 use Rattle.overlay_memory.proofs.storing.store_brought.Goals as goal
@@ -22,13 +22,8 @@ returns-in-Some-clause-stores c =
 
 -- Where its page comes to be large.
 
-pub put_in_page-requires-clause-there : goal.put_in_page-requires-clause-there
-put_in_page-requires-clause-there c =
-    line_here
-    (is_apart c.requires.found c.line_of-line.ensures.line c.units_with.ensures.joined c.requires.may c.requires.apart c.requires.some c.requires.one_line)
-
-pub put_in_page-requires-clause-fits : goal.put_in_page-requires-clause-fits
-put_in_page-requires-clause-fits c =
+pub put_in_found-requires-clause-fits : goal.put_in_found-requires-clause-fits
+put_in_found-requires-clause-fits c =
     line_room
     (is_apart c.requires.found c.line_of-line.ensures.line c.units_with.ensures.joined c.requires.may c.requires.apart c.requires.some c.requires.one_line)
     c.units_with.result c.limit.result c.units_with.ensures.units c.limit.ensures.limit c.in_default.ensures
@@ -37,7 +32,7 @@ pub returns-then-not-stays_overlay-clause-stores : goal.returns-then-not-stays_o
 returns-then-not-stays_overlay-clause-stores c = (
   line_allowed
       (is_apart c.requires.found c.line_of-line.ensures.line c.units_with.ensures.joined c.requires.may c.requires.apart c.requires.some c.requires.one_line),
-  c.put_in_page.ensures.stored,
+  c.put_in_found.ensures.stored,
 )
 
 pub returns-then-not-stays_overlay-clause-fronts : goal.returns-then-not-stays_overlay-clause-fronts

@@ -1,37 +1,50 @@
 use Rattle.overlay_pages.proofs.Views.{state_of, view_of}
-use Rattle.overlay_pages.proofs.Rebased.{after_alone, after_awaits, after_away, after_bare, after_theirs, after_there, rebase_fits, rebase_own, rebase_state}
+use Rattle.overlay_pages.proofs.FoundLines.{found_frame, found_there}
+use Rattle.overlay_pages.proofs.Rebased.{after_alone, after_awaits, after_away, after_entry, after_framed, rebase_fits, rebase_state}
 use Rattle.overlay_pages.proofs.rebasing.rebase.Goals as goal
 
-pub frame_of-own-requires : goal.frame_of-own-requires
-frame_of-own-requires c = after_there (view_of c.args.store.now c.args.ledger.now) (view_of c.commit.new.store c.commit.new.ledger) c.args.space c.args.page c.requires.there c.commit.ensures.joined c.commit.ensures.state
+pub drop_overlay-requires-clause-overlay : goal.drop_overlay-requires-clause-overlay
+drop_overlay-requires-clause-overlay c = c.overlay.ensures (view_of c.args.store.now c.args.ledger.now) c.requires.joined c.requires.found
 
-pub compose_scratch-requires : goal.compose_scratch-requires
-compose_scratch-requires c = rebase_own (view_of c.args.store.now c.args.ledger.now) (view_of c.commit.new.store c.commit.new.ledger) c.args.space c.args.page c.requires.there c.commit.ensures.joined c.commit.ensures.state
-    c.frame_of-own.result c.frame_of-own.ensures
-
-pub change_frame-requires-clause-bare : goal.change_frame-requires-clause-bare
-change_frame-requires-clause-bare c = after_bare (view_of c.args.store.now c.args.ledger.now) (view_of c.commit.new.store c.commit.new.ledger) c.args.space c.args.page c.requires.there c.commit.ensures.joined c.commit.ensures.state
+pub change_frame-requires-clause-there : goal.change_frame-requires-clause-there
+change_frame-requires-clause-there c =
+    after_entry (view_of c.args.store.now c.args.ledger.now) (view_of c.drop_overlay.new.store c.drop_overlay.new.ledger) c.args.page.now.space c.args.page.now.page
+    (found_there c.args.ledger.now c.args.page.now c.requires.found) c.drop_overlay.ensures.joined c.drop_overlay.ensures.state
+    c.entry.result (c.entry.ensures (view_of c.args.store.now c.args.ledger.now) c.requires.found)
 
 pub change_frame-requires-clause-alone : goal.change_frame-requires-clause-alone
-change_frame-requires-clause-alone c = after_alone (view_of c.args.store.now c.args.ledger.now) (view_of c.commit.new.store c.commit.new.ledger) c.args.space c.args.page c.requires.there c.commit.ensures.joined c.commit.ensures.state c.requires.alone
+change_frame-requires-clause-alone c =
+    after_alone (view_of c.args.store.now c.args.ledger.now) (view_of c.drop_overlay.new.store c.drop_overlay.new.ledger) c.args.page.now.space c.args.page.now.page
+    (found_there c.args.ledger.now c.args.page.now c.requires.found) c.drop_overlay.ensures.joined c.drop_overlay.ensures.state c.requires.alone
 
 pub change_frame-requires-clause-none_awaits : goal.change_frame-requires-clause-none_awaits
-change_frame-requires-clause-none_awaits c = after_awaits (view_of c.args.store.now c.args.ledger.now) (view_of c.commit.new.store c.commit.new.ledger) c.args.space c.args.page c.requires.there c.commit.ensures.joined c.commit.ensures.state c.requires.none_awaits
+change_frame-requires-clause-none_awaits c =
+    after_awaits (view_of c.args.store.now c.args.ledger.now) (view_of c.drop_overlay.new.store c.drop_overlay.new.ledger) c.args.page.now.space c.args.page.now.page
+    (found_there c.args.ledger.now c.args.page.now c.requires.found) c.drop_overlay.ensures.joined c.drop_overlay.ensures.state c.requires.none_awaits
 
-pub change_frame-requires-clause-theirs : goal.change_frame-requires-clause-theirs
-change_frame-requires-clause-theirs c = after_theirs (view_of c.args.store.now c.args.ledger.now) (view_of c.commit.new.store c.commit.new.ledger) c.args.space c.args.page c.requires.there c.commit.ensures.joined c.commit.ensures.state c.args.from c.args.other c.requires.theirs
+pub change_frame-requires-clause-frame : goal.change_frame-requires-clause-frame
+change_frame-requires-clause-frame c =
+    after_framed (view_of c.args.store.now c.args.ledger.now) (view_of c.drop_overlay.new.store c.drop_overlay.new.ledger) c.args.page.now.space c.args.page.now.page
+    (found_there c.args.ledger.now c.args.page.now c.requires.found) c.drop_overlay.ensures.joined c.drop_overlay.ensures.state
+    c.args.theirs.now.space c.args.theirs.now.page c.args.theirs.now.frame (found_frame c.args.ledger.now c.args.theirs.now c.requires.theirs)
 
 pub change_frame-requires-clause-away : goal.change_frame-requires-clause-away
-change_frame-requires-clause-away c = after_away (view_of c.args.store.now c.args.ledger.now) (view_of c.commit.new.store c.commit.new.ledger) c.args.space c.args.page c.requires.there c.commit.ensures.joined c.commit.ensures.state c.args.from c.args.other c.requires.away
+change_frame-requires-clause-away c =
+    after_away (view_of c.args.store.now c.args.ledger.now) (view_of c.drop_overlay.new.store c.drop_overlay.new.ledger) c.args.page.now.space c.args.page.now.page
+    (found_there c.args.ledger.now c.args.page.now c.requires.found) c.drop_overlay.ensures.joined c.drop_overlay.ensures.state
+    c.args.theirs.now.space c.args.theirs.now.page c.requires.away
 
 pub give_lines-requires-clause-fits : goal.give_lines-requires-clause-fits
 give_lines-requires-clause-fits c =
-    rebase_fits (view_of c.args.store.now c.args.ledger.now) (view_of c.commit.new.store c.commit.new.ledger) c.args.space c.args.page c.requires.there c.commit.ensures.joined c.commit.ensures.state
-    c.args.from c.args.other c.requires.alone c.requires.theirs c.requires.away (state_of (view_of c.change_frame.new.store c.change_frame.new.ledger)) c.change_frame.ensures.state c.change_frame.ensures.units _
+    rebase_fits (view_of c.args.store.now c.args.ledger.now) (view_of c.drop_overlay.new.store c.drop_overlay.new.ledger) c.args.page.now.space c.args.page.now.page
+    (found_there c.args.ledger.now c.args.page.now c.requires.found) c.drop_overlay.ensures.joined c.drop_overlay.ensures.state
+    c.args.theirs.now.space c.args.theirs.now.page c.requires.alone (found_there c.args.ledger.now c.args.theirs.now c.requires.theirs) c.requires.away
+    (state_of (view_of c.change_frame.new.store c.change_frame.new.ledger)) c.change_frame.ensures.state c.change_frame.ensures.units _
 
 pub returns-clause-state : goal.returns-clause-state
 returns-clause-state c =
-    rebase_state (view_of c.args.store.now c.args.ledger.now) (view_of c.commit.new.store c.commit.new.ledger) c.args.space c.args.page c.requires.there c.commit.ensures.joined c.commit.ensures.state
-    c.args.from c.args.other c.requires.alone c.requires.theirs c.requires.away (state_of (view_of c.change_frame.new.store c.change_frame.new.ledger)) c.change_frame.ensures.state
-    (state_of (view_of c.give_lines.new.store c.give_lines.new.ledger)) c.args.bits _ c.give_lines.ensures.state c.frame_of-own.result c.frame_of-own.ensures c.compose_scratch.ensures c.empty.ensures
-    c.requires.sees
+    rebase_state (view_of c.args.store.now c.args.ledger.now) (view_of c.drop_overlay.new.store c.drop_overlay.new.ledger) c.args.page.now.space c.args.page.now.page
+    (found_there c.args.ledger.now c.args.page.now c.requires.found) c.drop_overlay.ensures.joined c.drop_overlay.ensures.state
+    c.args.theirs.now.space c.args.theirs.now.page c.requires.alone (found_there c.args.ledger.now c.args.theirs.now c.requires.theirs) c.requires.away
+    (state_of (view_of c.change_frame.new.store c.change_frame.new.ledger)) c.change_frame.ensures.state
+    (state_of (view_of c.give_lines.new.store c.give_lines.new.ledger)) c.args.bits c.args.kept.now c.give_lines.ensures.state c.requires.kept c.requires.sees

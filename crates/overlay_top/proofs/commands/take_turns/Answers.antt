@@ -1,7 +1,7 @@
 use Rattle.std.proofs.Common.{◌∙◌, refl, subst, sym}
 use Rattle.machine_core.specs.Laws.{like_chain, like_itself}
 use Rattle.command_core.specs.Commands.{takes_left}
-use Rattle.command_core.specs.Turns.{left_of, ran_text}
+use Rattle.process_runs.specs.Turns.{left_of, ran_text}
 use Rattle.overlay_top.specs.Running.{LeavesOn}
 use Rattle.overlay_top.proofs.Endings.{ended_after, ended_as, ended_text, spoken}
 use Rattle.overlay_top.proofs.Errors.{by_err}

@@ -1,6 +1,6 @@
 use Rattle.std.proofs.Common.{◌≡◌}
 use Rattle.machine_core.specs.Machine.{AreLike}
-use Rattle.command_core.specs.Turns.{left_of, lines_left, ran_text}
+use Rattle.process_runs.specs.Turns.{left_of, lines_left, ran_text}
 use Rattle.overlay_top.proofs.Texts.{IsDone}
 use Rattle.overlay_top.proofs.commands.take_turns.Given as goal
 

@@ -1,6 +1,6 @@
 use Rattle.std.proofs.Common.{◌<◌, ◌≤◌, ◌+◌, ◌∙◌, ap, refl, subst, sym, arith, length, map}
 use Rattle.std.proofs.lemmas.List.{drop_all, length-map}
-use Rattle.command_core.specs.Sessions.{InSession, extended_session}
+use Rattle.command_core.specs.Sessions.{InSession, called_session, extended_session}
 use Rattle.script_text.specs.Given.{asks}
 use Rattle.overlay_top.proofs.Asks.{asked_at, fetches_next}
 use Rattle.overlay_top.proofs.Errors.{by_err, shelf_behind, sink_behind}
@@ -13,14 +13,16 @@ use Rattle.overlay_top.proofs.running.run.Goals as goal
 pub running-init : goal.running-init
 running-init g c = record {
   same = refl;
-  modes = ap (λ (s : InSession). s.modes) (c.set_extension.ensures.set ∙ ap (extended_session c.args.settings.extension) c.in_ok-session.ensures.session);
+  modes = ap (λ (s : InSession). s.modes) (c.set_calls.ensures.set ∙ ap (called_session c.args.settings.calls)
+      (c.set_extension.ensures.set ∙ ap (extended_session c.args.settings.extension) c.in_ok-session.ensures.session));
   shelf = refl;
   sink = refl;
   kept = λ tells other. refl;
   asked = refl;
   runs = λ tells.
-      none_run c.args.settings c.args.commands.now (g.H.Shelf.files c.args.shelf.now) c.set_extension.new.self.state g.K.Sink.tells (g.K.Sink.taken c.args.report.now.sink.now)
-      (ap (λ (s : InSession). s.state) (c.set_extension.ensures.set ∙ ap (extended_session c.args.settings.extension) c.in_ok-session.ensures.session));
+      none_run c.args.settings c.args.commands.now (g.H.Shelf.files c.args.shelf.now) c.set_calls.new.self.state g.K.Sink.tells (g.K.Sink.taken c.args.report.now.sink.now)
+      (ap (λ (s : InSession). s.state) (c.set_calls.ensures.set ∙ ap (called_session c.args.settings.calls)
+      (c.set_extension.ensures.set ∙ ap (extended_session c.args.settings.extension) c.in_ok-session.ensures.session)));
 }
 
 pub returns-in_err-perform-clause-ends : goal.returns-in_err-perform-clause-ends

@@ -1,10 +1,10 @@
 use Rattle.std.proofs.Common.{ℕ, Vec, Global, subst, sym}
 use Rattle.command_core.specs.State.{Registry, registry_of}
-use Rattle.command_core.specs.Rows.{Row}
+use Rattle.command_core.specs.Rows.{Row, registered}
 use Rattle.command_core.specs.Giving.{GivesChange, WantKeeps}
 use Rattle.command_core.specs.Changes.{CanBeTold, TakesText, asm_row, load_row}
 use Rattle.command_core.specs.Ample.{amply_assembled}
-use Rattle.command_core.specs.LikeLaws.{gives_as}
+use Rattle.command_core.specs.LikeLaws.{gives_as, registered_same}
 use Rattle.command_core.proofs.Assemblings.{gives_refused, loads_text, refused_keeps, refused_taken, refused_told, taken_loaded}
 use Rattle.command_core.proofs.session.Session.assemble.Goals as goal
 
@@ -14,7 +14,7 @@ returns-in-Ok-clause-gives c =
     (loads_text c.args.text.now c.in-Ok.file.items c.as_slice.result.now c.in-Ok.ensures.file c.as_slice.ensures.value) c.load.ensures.gives
 
 pub returns-in-Ok-clause-stands : goal.returns-in-Ok-clause-stands
-returns-in-Ok-clause-stands c = gives_as (asm_row c.args.text.now) c.args.self.now c.load.new.self c.load.result (returns-in-Ok-clause-gives c)
+returns-in-Ok-clause-stands c = gives_as (registered (asm_row c.args.text.now)) (registered_same (asm_row c.args.text.now)) c.args.self.now c.load.new.self c.load.result (returns-in-Ok-clause-gives c)
 
 pub returns-in-Ok-clause-taken : goal.returns-in-Ok-clause-taken
 returns-in-Ok-clause-taken c =
@@ -32,7 +32,7 @@ returns-in-Err-clause-gives c =
     (gives_refused c.args.text.now state (λ (v : Vec ℕ Global). v.items) c.in-Err.error c.in-Err.ensures.file)
 
 pub returns-in-Err-clause-stands : goal.returns-in-Err-clause-stands
-returns-in-Err-clause-stands c = gives_as (asm_row c.args.text.now) c.args.self.now c.args.self.now c.not_assembled.result (returns-in-Err-clause-gives c)
+returns-in-Err-clause-stands c = gives_as (registered (asm_row c.args.text.now)) (registered_same (asm_row c.args.text.now)) c.args.self.now c.args.self.now c.not_assembled.result (returns-in-Err-clause-gives c)
 
 pub returns-in-Err-clause-taken : goal.returns-in-Err-clause-taken
 returns-in-Err-clause-taken c = subst (TakesText c.args.text.now) (sym c.not_assembled.ensures) (refused_taken c.args.text.now c.in-Err.error)

@@ -1,4 +1,4 @@
-use Rattle.std.proofs.Common.{[], subst, sym, ◌∙◌}
+use Rattle.std.proofs.Common.{subst, sym, ◌∙◌}
 use Rattle.machine_core.specs.Machine.{spaces_of}
 use Rattle.command_core.specs.State.{registry_of}
 use Rattle.command_core.specs.Sessions.{InSession}
@@ -8,7 +8,8 @@ use Rattle.command_core.specs.Changes.{answer_of, load_row}
 use Rattle.report_text.specs.declared.answer.Answer.TheVariants.{Loaded, Refused}
 use Rattle.report_text.specs.declared.answer.Code.TheVariants.{NumbersUsed}
 use Rattle.command_core.specs.Ample.{amply_loaded}
-use Rattle.command_core.specs.LikeLaws.{gives_as}
+use Rattle.command_core.specs.LikeLaws.{gives_as, registered_same}
+use Rattle.command_core.specs.Rows.{registered}
 use Rattle.command_core.proofs.Breaks.{breaks_kept, breaks_loaded}
 use Rattle.command_core.proofs.Numbers.{next_is, taken_free}
 use Rattle.command_core.proofs.Loadings.{comes_used, gives_loaded, gives_other, runs_loaded, session_other}
@@ -99,12 +100,12 @@ returns-clause-gives c =
 
 pub returns-in-Ok-load-clause-stands : goal.returns-in-Ok-load-clause-stands
 returns-in-Ok-load-clause-stands c =
-    gives_as (load_row c.args.file.now) c.args.self.now (shown_session c.load.new.self c.self.inside.checkpoints c.self.inside.breakpoints c.self.inside.modes)
+    gives_as (registered (load_row c.args.file.now)) (registered_same (load_row c.args.file.now)) c.args.self.now (shown_session c.load.new.self c.self.inside.checkpoints c.self.inside.breakpoints c.self.inside.modes)
     (Loaded c.in-Some.p c.in-Ok-load.pages c.entry.result) (returns-in-Ok-load-clause-gives c)
 
 pub returns-clause-stands : goal.returns-clause-stands
 returns-clause-stands c =
-    gives_as (load_row c.args.file.now) c.args.self.now (shown_session c.load.new.self c.self.inside.checkpoints c.self.inside.breakpoints c.self.inside.modes)
+    gives_as (registered (load_row c.args.file.now)) (registered_same (load_row c.args.file.now)) c.args.self.now (shown_session c.load.new.self c.self.inside.checkpoints c.self.inside.breakpoints c.self.inside.modes)
     c.not_made.result (returns-clause-gives c)
 
 pub returns-clause-ample : goal.returns-clause-ample
@@ -132,4 +133,4 @@ returns-in-None-clause-gives c =
 
 pub returns-in-None-clause-stands : goal.returns-in-None-clause-stands
 returns-in-None-clause-stands c =
-    gives_as (load_row c.args.file.now) c.args.self.now c.args.self.now (Refused NumbersUsed) (returns-in-None-clause-gives c)
+    gives_as (registered (load_row c.args.file.now)) (registered_same (load_row c.args.file.now)) c.args.self.now c.args.self.now (Refused NumbersUsed) (returns-in-None-clause-gives c)

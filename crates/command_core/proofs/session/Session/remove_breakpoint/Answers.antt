@@ -4,7 +4,7 @@ use Rattle.breakpoints.specs.Breakpoints.{Breaks}
 use Rattle.report_text.specs.declared.answer.Answer.TheVariants.{Done}
 use Rattle.command_core.specs.State.{registry_of}
 use Rattle.command_core.specs.Sessions.{AreBreaksOf, InSession}
-use Rattle.command_core.specs.Kept.{shown_state, spaces_kept}
+use Rattle.command_core.specs.Kept.{shown_state}
 use Rattle.command_core.specs.Debugging.{unbreak_row}
 use Rattle.command_core.specs.Changes.{on_process}
 use Rattle.command_core.specs.Giving.{GivesChange}

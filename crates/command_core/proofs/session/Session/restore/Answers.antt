@@ -12,7 +12,7 @@ use Rattle.command_core.specs.Checkpoints.{restore_row}
 use Rattle.command_core.specs.Changes.{answer_of, on_process}
 use Rattle.command_core.proofs.Copies.{copy_keeps}
 use Rattle.command_core.proofs.Keeping.{found_has}
-use Rattle.command_core.proofs.Places.{not_free}
+use Rattle.process_runs.specs.PlaceLaws.{not_free}
 use Rattle.command_core.proofs.Savings.{free_unmarked, not_restored, restore_unnamed, restored_done, session_of_restored, told_mark}
 use Rattle.command_core.proofs.Wanting.{copy_keeps_all, told_keeps}
 use Rattle.command_core.proofs.Breaks.{breaks_kept, breaks_more}

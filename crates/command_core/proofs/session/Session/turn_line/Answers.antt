@@ -2,7 +2,8 @@ use Rattle.std.proofs.Common.{subst}
 use Rattle.command_core.specs.Sessions.{InSession, KeepsRest}
 use Rattle.command_core.specs.Kept.{shown_session, spaces_kept}
 use Rattle.command_core.proofs.Breaks.{breaks_kept}
-use Rattle.command_core.proofs.Places.{session_kept, stay_kept}
+use Rattle.command_core.proofs.Places.{session_kept}
+use Rattle.process_runs.specs.PlaceLaws.{stay_kept}
 use Rattle.command_core.specs.Standing.{TurnsAs, ends_run, speaks}
 use Rattle.command_core.proofs.Standing.{ends_as, rest_kept, speaks_as}
 use Rattle.command_core.proofs.session.Session.turn_line.Goals as goal

@@ -1,7 +1,0 @@
-use Rattle.machine_core.specs.Machine.{wholes}
-use Rattle.command_core.proofs.Places.{next_runs}
-use Rattle.command_core.proofs.taking.next.Goals as goal
-
-pub returns-in-ByTurns-clause-runs : goal.returns-in-ByTurns-clause-runs
-returns-in-ByTurns-clause-runs c =
-    next_runs (wholes c.args.machine.now) c.next.result c.in-ByTurns.turns c.running.result.now c.running.ensures.each c.next.ensures.number

@@ -1,0 +1,3 @@
+pub mod Requesting
+pub mod Answering
+pub mod Eventing

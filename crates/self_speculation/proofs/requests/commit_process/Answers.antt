@@ -1,0 +1,24 @@
+use Rattle.std.proofs.Common.{ap, subst, sym, ◌∙◌}
+use Rattle.std.specs.Prelude.{Ok, Err, None}
+use Rattle.overlay_memory.specs.View.{TranslatedView, translations_of}
+use Rattle.translation_cache.specs.Translations.{flushed}
+use Rattle.speculation.specs.Speculated.{Commits}
+use Rattle.ovl_io.specs.declared.turn.Turn.TheVariants.{Stepped}
+use Rattle.process_calls.specs.declared.calls.ProcessCall.TheVariants.{Commit}
+use Rattle.machine_core.specs.Machine.{with_memory, with_process_at}
+use Rattle.self_speculation.specs.Requests.{DoesCall}
+use Rattle.self_speculation.proofs.Requesting.{has_committed}
+use Rattle.self_speculation.proofs.requests.commit_process.Goals as goal
+
+pub returns-in-Ok : goal.returns-in-Ok
+returns-in-Ok c =
+    let old = c.args.machine.now in
+    let mid = with_memory old c.commit.new.mem in
+    let process = c.args.process in
+    let put = c.set_process.ensures ∙ (λ i. with_process_at mid c.args.p (record { regs = c.gone_on.ensures i; state = process.state; saved = None })) in
+    record {
+      does = subst (DoesCall c.args.p Commit process c.args.at old Stepped) (sym put)
+          (has_committed c.args.p process c.args.at old c.requires.there c.commit.new.mem
+          (subst (λ (m : TranslatedView). Commits m c.commit.new.mem c.args.p (Ok tt)) c.memory_mut.ensures.value c.in-Ok.ensures.commits)
+          (c.in-Ok.ensures.translations ∙ ap (λ (m : TranslatedView). flushed c.args.p (translations_of m)) c.memory_mut.ensures.value));
+    }

@@ -1,0 +1,62 @@
+//! What a process asked for, and one turn.
+
+ghost use Rattle.std.specs.Prelude.{◌≡◌, true};
+ghost use Rattle.std.specs.FinMap.{empty};
+ghost use Rattle.space_maps.specs.Spaces.{space_in};
+ghost use Rattle.machine_core.specs.Machine.{AnswersAs, LeadsTo, StaysBut, has_saved, has_space, is_marked, is_running, spaces_of, wholes};
+ghost use Rattle.self_speculation.specs.Taken.{AnswersRequest, after_taken, taken_turn};
+ghost use Rattle.self_speculation.specs.Requests.{IsAnswer, KeepsPairs, KeepsUnseen};
+
+use crate::requests::answer_call;
+use machine_core::Machine;
+use ovl_io::Turn;
+use rv_execute::Outcome;
+
+/// Does what a running process, whose space is there, asked for by ECALL, and answers what came of it. A process that may speculate by itself
+/// (`calls`) may ask for that; all else is what the machine does for every process. The ECALL was fetched and counted. Takes no memory.
+pub fn answer(machine: &mut Machine, p: u16, calls: bool) -> Turn
+    requires runs { is_running (wholes machine.old) p ≡ true }
+    requires there { has_space machine.old p ≡ true }
+    requires none_awaits { (space_in (spaces_of machine.old) p).awaiting ≡ empty }
+    requires kept { is_marked machine.old p ≡ has_saved machine.old p }
+    ensures answers { AnswersRequest calls p (wholes machine.old) result (wholes machine.new) }
+    ensures others { StaysBut p machine.old machine.new }
+    ensures pairs { KeepsPairs machine.old machine.new }
+    ensures unseen { KeepsUnseen p machine.old machine.new }
+    ensures came { IsAnswer p machine.old result }
+{
+    if !calls {
+        return machine.answer(p);
+    }
+    match machine.process(p) {
+        Some(process) => {
+            let process = *process;
+            match answer_call(machine, p, process) {
+                Some(turn) => turn,
+                None => machine.answer(p),
+            }
+        }
+        None => unreachable!(),
+    }
+}
+
+/// One instruction of a running process, whose space is there, and what came of it; it may speculate by itself (`calls`) or not. Full exactly
+/// where the units after its store, or after the settling of its pages where it begins a speculation, would exceed the limit; then nothing
+/// changes but the translations. Takes no memory.
+pub fn event(machine: &mut Machine, p: u16, calls: bool) -> Turn
+    requires runs { is_running (wholes machine.old) p ≡ true }
+    requires there { has_space machine.old p ≡ true }
+    requires none_awaits { (space_in (spaces_of machine.old) p).awaiting ≡ empty }
+    requires kept { is_marked machine.old p ≡ has_saved machine.old p }
+    ensures answers { AnswersAs (λ state. taken_turn calls state p) machine.old result }
+    ensures stands { LeadsTo (λ state. after_taken calls state p) machine.old machine.new }
+    ensures others { StaysBut p machine.old machine.new }
+    ensures pairs { KeepsPairs machine.old machine.new }
+{
+    match machine.execute(p) {
+        Outcome::Stepped => Turn::Stepped,
+        Outcome::Asked => answer(machine, p, calls),
+        Outcome::Fault(kind, address) => Turn::Faulted(kind, address),
+        Outcome::Full(units, limit) => Turn::Full(units, limit),
+    }
+}
