@@ -26,7 +26,10 @@ use Rattle.machine_core.specs.Load.{IsAsBefore, IsLoaded, loaded_process}
 use Rattle.round_robin.specs.MemberLaws.{next_has}
 use Rattle.round_robin.specs.Turns.{Turns, next_number}
 use Rattle.command_core.specs.Sessions.{HasNoProcess, IsSession, KeepsSession, bases_of}
+use Rattle.self_speculation.specs.Requests.{KeepsPairs}
+use Rattle.self_speculation.specs.RequestLaws.{places_pairs}
 use Rattle.process_runs.specs.Places.{KeepsFree, NoneGoes, OwnSpaces}
+use Rattle.process_runs.specs.PlaceLaws.{none_is, not_free, free_start}
 use Rattle.free_numbers.specs.Numbers.{IsPut, is_in, is_number}
 use Rattle.overlay_bits.specs.Below.{and_false, and_true}
 use Rattle.translation_cache.specs.Absent.{HasNone, none_at_first, none_flushed, none_of_own}
@@ -211,7 +214,7 @@ free_before old new same = record {
 
 pub keeps_before : (old new : Machine) → IsAsBefore old new → KeepsSession old new
 keeps_before old new same = record {
-  session = λ spaces numbers is. session_kept old new spaces numbers is (places_before old new same) (free_before old new same);
+  session = λ spaces numbers is. session_kept old new spaces numbers is (places_pairs old new (places_before old new same)) (free_before old new same);
   free = free_before old new same;
   stay = λ q none. ap (λ m. get m q) (sym same.2) ∙ none;
 }

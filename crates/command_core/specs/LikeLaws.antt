@@ -32,7 +32,8 @@ use Rattle.command_core.specs.Sessions.{InSession}
 use Rattle.command_core.specs.Rows.{Changed, Row, accepts, change_by, event_needs, falls_short, first_refusal, flushed_by, row_is_full, ledger_by, may_want_memory, refuses, registered, still_row, wants_by, within_units}
 use Rattle.command_core.specs.Giving.{ComesTo, GivesChange}
 use Rattle.command_core.specs.Changes.{LedgerTold, TellsCounts, TellsDedup, TellsDedupAll, change_row, ledger_row, load_row, row_in, told_by_ledger}
-use Rattle.process_runs.specs.Turns.{Progress, begun_alone, by_turns, ran_from, ran_text}
+use Rattle.process_runs.specs.LikeLaws.{like_text, like_ran}
+use Rattle.process_runs.specs.Turns.{Progress, Ran, begun_alone, by_turns, ran, ran_from, ran_text}
 use Rattle.command_core.specs.Looks.{counts_of}
 use Rattle.command_core.specs.Commands.{Performed, change_told, checkpoint_text, counts_text, disasm_text, dump_text, exec_done, exec_turns, ledger_done, list_head, list_text, performed, prints_of, prints_read, process_text, regs_done, regs_of, row_told, stats_text, step_done, steps, takes_turns, told, rules}
 use Rattle.command_core.specs.CommandCases.{GoesBy, ByExec, ByRun, ByStep, ByList, ByRegs, ByDump, ByDisasm, ByLedger, ByChange, goes_by}

@@ -4,6 +4,8 @@ pub mod Called
 pub mod Taken
 -- What a machine does at a request.
 pub mod Requests
+-- The value of its constant.
+pub mod Examples
 -- Laws: alike states come to the same.
 pub mod CalledLaws
 -- Laws: what an execution that is a request has done, and that every other is a whole turn.

@@ -15,29 +15,29 @@ returns-clause-session c =
     let machine = c.in_ok-new.field-0 in
     let started : Wholes → Bases → InSession = λ w bases. record {
       state = record { wholes = w; checkpoints = []; breakpoints = empty };
-      modes = record { frames = c.args.frames; quantum = c.args.quantum; extension = false };
+      modes = record { frames = c.args.frames; quantum = c.args.quantum; extension = false; calls = false };
       bases = bases;
       free_blocks = free_blocks_of machine.memory.pages.store.blocks;
     } in
-    let all = wholes_start machine (record { frames = c.args.frames; quantum = c.args.quantum; extension = false }) c.in_ok-new.ensures.spaces c.in_ok-new.ensures.processes c.in_ok-new.ensures.extension c.in_ok-new.ensures.lists in
-    let none = no_bases machine (record { frames = c.args.frames; quantum = c.args.quantum; extension = false }) c.in_ok-new.ensures.spaces c.in_ok-new.ensures.processes c.in_ok-new.ensures.extension in
-    ap (λ xs. shown_session c.in_ok-new.field-0 xs c.new-3.result (record { frames = c.args.frames; quantum = c.args.quantum; extension = false })) c.new-2.ensures
-    ∙ ap (λ (breaks : Breaks). shown_session c.in_ok-new.field-0 [] breaks (record { frames = c.args.frames; quantum = c.args.quantum; extension = false })) c.new-3.ensures
+    let all = wholes_start machine (record { frames = c.args.frames; quantum = c.args.quantum; extension = false; calls = false }) c.in_ok-new.ensures.spaces c.in_ok-new.ensures.processes c.in_ok-new.ensures.extension c.in_ok-new.ensures.lists in
+    let none = no_bases machine (record { frames = c.args.frames; quantum = c.args.quantum; extension = false; calls = false }) c.in_ok-new.ensures.spaces c.in_ok-new.ensures.processes c.in_ok-new.ensures.extension in
+    ap (λ xs. shown_session c.in_ok-new.field-0 xs c.new-3.result (record { frames = c.args.frames; quantum = c.args.quantum; extension = false; calls = false })) c.new-2.ensures
+    ∙ ap (λ (breaks : Breaks). shown_session c.in_ok-new.field-0 [] breaks (record { frames = c.args.frames; quantum = c.args.quantum; extension = false; calls = false })) c.new-3.ensures
     ∙ λ i. started (all i) (none i)
 
 pub returns-clause-stands : goal.returns-clause-stands
 returns-clause-stands c =
     let started : Wholes → State = λ w. record { wholes = w; checkpoints = []; breakpoints = empty } in
-    states_same _ (fresh (record { frames = c.args.frames; quantum = c.args.quantum; extension = false }))
+    states_same _ (fresh (record { frames = c.args.frames; quantum = c.args.quantum; extension = false; calls = false }))
     (ap (λ xs. shown_state c.in_ok-new.field-0 xs c.new-3.result) c.new-2.ensures
     ∙ ap (λ (breaks : Breaks). shown_state c.in_ok-new.field-0 [] breaks) c.new-3.ensures
-    ∙ ap started (wholes_start c.in_ok-new.field-0 (record { frames = c.args.frames; quantum = c.args.quantum; extension = false }) c.in_ok-new.ensures.spaces c.in_ok-new.ensures.processes c.in_ok-new.ensures.extension c.in_ok-new.ensures.lists))
+    ∙ ap started (wholes_start c.in_ok-new.field-0 (record { frames = c.args.frames; quantum = c.args.quantum; extension = false; calls = false }) c.in_ok-new.ensures.spaces c.in_ok-new.ensures.processes c.in_ok-new.ensures.extension c.in_ok-new.ensures.lists))
 
 pub invariant_of-result : goal.invariant_of-result
 invariant_of-result c =
     let numbers = c.in_ok-new-2.field-0 in (
       subst (λ xs. IsSession c.in_ok-new.field-0 (spaces_kept xs) numbers) (sym c.new-2.ensures)
-          (session_start c.in_ok-new.field-0 (record { frames = c.args.frames; quantum = c.args.quantum; extension = false }) c.in_ok-new.ensures.spaces c.in_ok-new.ensures.processes c.in_ok-new.ensures.extension
+          (session_start c.in_ok-new.field-0 (record { frames = c.args.frames; quantum = c.args.quantum; extension = false; calls = false }) c.in_ok-new.ensures.spaces c.in_ok-new.ensures.processes c.in_ok-new.ensures.extension
           numbers c.in_ok-new-2.ensures c.in_ok-new.ensures.lists),
       c.requires.quantum,
       λ p gone. ap (λ (breaks : Breaks). get breaks p) c.new-3.ensures ∙ get-empty nat_cmp p,
