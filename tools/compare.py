@@ -7,9 +7,9 @@ import scripts
 import studies
 from studies import printable
 
-ABOUT = """Runs the script of an exercise, lab/NAME/script, and compares its report with that of lab/answers/NAME: which lines differ, each with
-the command that it answers. The turns of `ran T ended` and the like, and the hits and misses of `stats`, may differ, since each
-program has its own number of instructions."""
+ABOUT = """Runs the script of an exercise, lab/NAME/script, with the words of the answer where it has some, and compares its report with that of
+lab/answers/NAME: which lines differ, each with the command that it answers. The turns of `ran T ended` and the like, and the hits and
+misses of `stats`, may differ, since each program has its own number of instructions."""
 MORE = "Status: 0 where none differs, 1 where some do, 2 where there is nothing to compare."
 
 
