@@ -7,9 +7,9 @@ import scripts
 import studies
 from studies import printable
 
-ABOUT = """Runs the script of an exercise, lab/NAME/script, and compares its report with that of lab/answers/NAME: which lines differ, each with
-the command that it answers. The turns of `ran T ended` and the like, and the hits and misses of `stats`, may differ, since each
-program has its own number of instructions."""
+ABOUT = """Runs the script of an exercise, lab/NAME/script, with the words of the answer where it has some, and compares its report with that of
+lab/answers/NAME: which lines differ, each with the command that it answers. The turns of `ran T ended` and the like, and the hits and
+misses of `stats`, may differ, since each program has its own number of instructions."""
 MORE = "Status: 0 where none differs, 1 where some do, 2 where there is nothing to compare."
 
 
@@ -46,6 +46,15 @@ def commands_of(path):
         return [line for line in scripts.lines_of(file.read()) if line.has_command]
 
 
+def program_words_of(answer):
+    """The words that an exercise's program is called with: those of the file `words`, one a line, where there is one."""
+    path = os.path.join(answer, "words")
+    if not os.path.exists(path):
+        return []
+    with open(path, encoding="utf-8") as file:
+        return file.read().split()
+
+
 def differing(given, wanted):
     """The places at which two answers differ, as pairs of lines, None where one has no more."""
     long = max(len(given), len(wanted))
@@ -60,7 +69,7 @@ def compare(lab, name):
     with open(os.path.join(answer, "report"), encoding="latin-1") as file:
         wanted = scripts.split(theirs, file.read().splitlines())
     with open(os.path.join(folder, "script"), "rb") as file:
-        study = studies.Study(scripts.lines_of(file.read()), folder, name=f"lab/{name}/script")
+        study = studies.Study(scripts.lines_of(file.read()), folder, words=program_words_of(answer), name=f"lab/{name}/script")
     count = 0
     for k, line in enumerate(study.commands):
         if k >= len(theirs) or line.words != theirs[k].words:

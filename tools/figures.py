@@ -13,8 +13,8 @@ ABOUT = """Figures of a script: what a run of it says and what its memory takes,
 make, --answers, --table and --held are made."""
 MORE = """With --copies there stand beside the units of the run those of a machine that copies a whole page at the first store to it: the
 same script over 65,536 frames, with `promote P all` behind each command that may store, and with `checkpoint` and
-`restore` in the place of speculations. Nothing is shown where a line of the report is `full`, or where a process is made
-after a speculation.
+`restore` in the place of speculations. Nothing is shown where a line of the report is `full`, where a process is made after a
+speculation, or where with --calls a command finds or makes a process speculating.
 
 The program is run on copies of the script with `stats`, `list` and such commands added behind its own, so each number is one
 that the program printed, or a difference of two. The lines that the script's own commands have are compared between the runs.
@@ -130,11 +130,22 @@ def sampled(study, turns):
     return made, kept_whole
 
 
+def refuse_mixed_speculations(study):
+    """Fails where a process that may speculate by itself is speculating behind a command: a checkpoint can't stand in the place of that,
+    since what the process asks for later hangs on it."""
+    if "--calls" not in study.words:
+        return
+    for line, (_, _, listed) in zip(study.commands, study.measured()):
+        if processes(listed)[1]:
+            raise Failed(f"behind line {line.number} a process that may speculate by itself is speculating, so copies of whole pages aren't shown")
+
+
 def copies(study):
     """The units behind each command on a machine that copies a whole page at the first store to it."""
     done = study.commands[:study.ended]
     if any(line.startswith("full ") for answer in study.answers for line in answer):
         raise Failed("a line of the report is `full`, so copies of whole pages aren't shown")
+    refuse_mixed_speculations(study)
     names = {name for line in done for name in line.words}
     kept, added = "speculation-of-", []
     while any(name.startswith(kept) for name in names):

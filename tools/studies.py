@@ -47,10 +47,21 @@ def add_program_words(words):
     words.add_argument("--program", metavar="FILE", default=scripts.PROGRAM, help="run this program, in place of bin/overlay-run")
     words.add_argument("--frames", metavar="N", help="the program's word: how many frames the machine has")
     words.add_argument("--quantum", metavar="Q", help="the program's word: how many turns a process takes before the next one does")
+    add_program_flags(words)
+
+
+def add_program_flags(words):
+    """The words of the program that have no value."""
+    words.add_argument("--m", action="store_true", help="the program's word: the machine has multiplication and division")
+    words.add_argument("--calls", action="store_true", help="the program's word: processes may speculate by themselves")
+
+
+def program_flags(call):
+    return [f"--{word}" for word in ("m", "calls") if getattr(call, word)]
 
 
 def program_words(call):
-    return [f"--{word}={getattr(call, word)}" for word in ("frames", "quantum") if getattr(call, word) is not None]
+    return [f"--{word}={getattr(call, word)}" for word in ("frames", "quantum") if getattr(call, word) is not None] + program_flags(call)
 
 
 def call(name, main):

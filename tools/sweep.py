@@ -47,6 +47,7 @@ def words():
     words.add_argument("-o", "--output", metavar="FILE", default="-", help="the CSV file; standard output where it isn't given")
     words.add_argument("--frames", metavar="LIST", type=numbers(1, 65536), help="the numbers of frames")
     words.add_argument("--quanta", metavar="LIST", type=numbers(1, 10**6), help="the quanta")
+    studies.add_program_flags(words)
     words.add_argument("--seeds", metavar="LIST", type=numbers(0, 2**64 - 1), help="the seeds of scripts that the program makes")
     words.add_argument("--reports", metavar="FOLDER", help="keep each report in this folder")
     words.add_argument("--jobs", metavar="N", type=studies.number_of(1, 1024), default=os.cpu_count() or 1, help="how many at a time")
@@ -59,14 +60,14 @@ def words():
 class Run:
     """One run: a script or a seed, and what it is run with; and when it is done, its row of the table and what is wrong with it."""
 
-    def __init__(self, script, seed, frames, quantum):
-        self.script, self.seed, self.frames, self.quantum = script, seed, frames, quantum
+    def __init__(self, script, seed, frames, quantum, flags):
+        self.script, self.seed, self.frames, self.quantum, self.flags = script, seed, frames, quantum, flags
         self.row = self.wrong = None
 
     @property
     def words(self):
         return ([f"--frames={self.frames}"] * (self.frames is not None) + [f"--quantum={self.quantum}"] * (self.quantum is not None)
-                + [f"--make={self.seed}"] * (self.seed is not None))
+                + [f"--make={self.seed}"] * (self.seed is not None) + self.flags)
 
     @property
     def name(self):
@@ -122,7 +123,7 @@ def runs_of(call):
     for script, seed in what:
         for frames in each(call.frames):
             for quantum in each(call.quanta):
-                yield Run(script, seed, frames, quantum)
+                yield Run(script, seed, frames, quantum, studies.program_flags(call))
 
 
 class Progress:
