@@ -489,8 +489,8 @@ impl OverlayMemory {
 
     /// A page that is alone comes onto the frame of another page, and gives its own up: what differs there becomes its own lines. No page
     /// of its space is on that frame, unless it is the zero frame, and at most 31 lines are apart. Neither space is speculating, and no
-    /// page of the first one awaits. Every memory stays. Takes no memory. Costs a comparison of each line, a copy of the page and of each
-    /// line that is apart, and moves that copy 60 lines at most.
+    /// page of the first one awaits. Every memory stays. Takes no memory. Costs a comparison of each line, two copies of each line that
+    /// is apart, and moves that copy 60 lines at most.
     pub fn rebase_page(&mut self, space: u16, page: u64, from: u16, other: u64)
         requires there { IsSome (page_in (state_of self.old) space page) }
         requires theirs { IsSome (page_in (state_of self.old) from other) }

@@ -71,8 +71,9 @@ fn is_frame_here(mem: &OverlayMemory, space: u16, theirs: &FoundPage) -> bool
 /// pages are there, neither space is speculating, and no page of the first one awaits. NotAlone exactly where the page isn't alone; else
 /// FrameHere exactly where the other page is on a frame other than the zero frame, and some page of the space is on it; else NotAlike
 /// exactly where more than 31 lines are the other page's own or differ, with how many those are. After an error everything is as before.
-/// No memory changes, and the units fall by at least 8. Takes no memory. Costs a look-up for each page of the space where the other
-/// page's frame is shared, a comparison of each line, a copy of the page and of each line that becomes its own.
+/// No memory changes, and the units fall by at least 8. Takes no memory. Costs a look-up of both pages, and of
+/// each page of the space where the other page's frame is shared, a comparison of each line, two copies of each line that becomes its own,
+/// and moves that copy 60 lines at most.
 pub fn deduplicate(
     mem: &mut OverlayMemory,
     space: u16,
