@@ -9,7 +9,9 @@ use Rattle.number_maps.specs.Keys.{alike, by_key, get_other, get_same, removed_o
 use Rattle.number_maps.specs.Views.{viewed, viewed_empty}
 use Rattle.sizes.specs.declared.TheConstants.{LAST_SPACE}
 use Rattle.overlay_pages.specs.Calls.{IsEmptyState}
-use Rattle.overlay_pages.specs.State.{SpaceState, State, base_of, books, held_page}
+use Rattle.overlay_pages.specs.State.{SpaceState, State, base_of, books, held_page, memory_of}
+use Rattle.delta_spaces.specs.Gathered.{HasFitPages}
+use Rattle.elf_loader.specs.Accepted.{file_refusal}
 use Rattle.translation_cache.specs.Translations.{flushed, no_translations}
 use Rattle.command_core.specs.declared.modes.Modes.{Modes}
 use Rattle.command_core.specs.State.{fresh}
@@ -25,12 +27,13 @@ use Rattle.machine_core.specs.Laws.{processes_at, runs_shown, whole_by}
 use Rattle.machine_core.specs.Load.{IsAsBefore, IsLoaded, loaded_process}
 use Rattle.round_robin.specs.MemberLaws.{next_has}
 use Rattle.round_robin.specs.Turns.{Turns, next_number}
-use Rattle.command_core.specs.Sessions.{HasNoProcess, IsSession, KeepsFree, KeepsSession, NoneGoes, OwnSpaces, bases_of}
+use Rattle.command_core.specs.Sessions.{HasNoProcess, HaveFitPages, IsSession, KeepsFree, KeepsSession, NoneGoes, OwnSpaces, bases_of}
 use Rattle.free_numbers.specs.Numbers.{IsPut, is_in, is_number}
 use Rattle.overlay_bits.specs.Below.{and_false, and_true}
 use Rattle.translation_cache.specs.Absent.{HasNone, none_at_first, none_flushed, none_of_own}
 use Rattle.translation_cache.specs.Bare.{BareTranslations}
 use Rattle.command_core.specs.Rows.{flushed_by}
+use Rattle.command_core.proofs.Fitting.{LeavesPerms, fit_absent, fit_but, fit_loaded, fit_turns, shown_memory}
 use Rattle.command_core.proofs.Keeping.{any_last, any_left, each, each_more, none_twice, once_more}
 
 -- Which spaces and processes are there.
@@ -57,12 +60,13 @@ not_free machine p q there none same = let lacks = ap is_some (sym (ap (get mach
 
 -- free spaces, the same way
 pub free_start : (machine : Machine) → KeepsFree machine machine
-free_start machine = record { spaces = λ q none. refl; unseen = λ q none unlisted. unlisted }
+free_start machine = record { spaces = λ q none. refl; unseen = λ q none unlisted. unlisted; fit = λ fit. fit }
 
 pub free_then : (a b c : Machine) → KeepsPlaces a b → KeepsFree a b → KeepsFree b c → KeepsFree a c
 free_then a b c places first second = record {
   spaces = λ q none. second.spaces q (still q none) ∙ first.spaces q none;
   unseen = λ q none unlisted. second.unseen q (still q none) (first.unseen q none unlisted);
+  fit = λ fit. second.fit (first.fit fit);
 }
   where
     still : (q : ℕ) → get a.processes q ≡ None → get b.processes q ≡ None
@@ -70,10 +74,12 @@ free_then a b c places first second = record {
 
 -- where all but one process is as it was, free spaces are
 pub free_stays : (p : ℕ) (old new : Machine) → StaysBut p old new → is_some (get old.processes p) ≡ true
-    → ((q : ℕ) → (q ≡ p → ⊥) → HasNone q (lists_of old) → HasNone q (lists_of new)) → KeepsFree old new
-free_stays p old new others there unlisted = record {
+    → ((q : ℕ) → (q ≡ p → ⊥) → HasNone q (lists_of old) → HasNone q (lists_of new))
+    → (HaveFitPages old → HasFitPages (memory_of (spaces_of new) p)) → KeepsFree old new
+free_stays p old new others there unlisted here = record {
   spaces = λ q none. others.spaces q (not_free old p q there none);
   unseen = λ q none. unlisted q (not_free old p q there none);
+  fit = λ fit. fit_but old new p others.spaces (here fit) fit;
 }
 
 -- nothing is translated by entries that go
@@ -120,9 +126,10 @@ process_there machine p running = by_process (get machine.processes p) (sym (run
 
 -- turns of a process that runs leave the others
 pub free_turns : (p : ℕ) (old new : Machine) (left : Wholes) → StaysBut p old new → is_running (wholes old) p ≡ true → AreLike (wholes new) left
-    → ((q : ℕ) → (q ≡ p → ⊥) → HasNone q (lists_of old) → HasNone q left.translations) → KeepsFree old new
-free_turns p old new left others running like unlisted =
+    → ((q : ℕ) → (q ≡ p → ⊥) → HasNone q (lists_of old) → HasNone q left.translations) → LeavesPerms p (wholes old) left → KeepsFree old new
+free_turns p old new left others running like unlisted leaves =
     free_stays p old new others (process_there old p running) (λ q other none. subst (HasNone q) (sym like.translations) (unlisted q other none))
+    (fit_turns old new p left (process_there old p running) leaves like)
 
 -- no process goes where the same ones are there
 pub stay_kept : (old new : Machine) → KeepsPlaces old new → NoneGoes old new
@@ -150,6 +157,7 @@ session_kept old new spaces numbers is same free = record {
       (λ q h. (same.spaces q ∙ h.0, none_is (get new.processes q) (same.processes q ∙ ap is_some h.1))) is.free;
   once = is.once;
   unseen = λ p none. free.unseen p (before p none) (is.unseen p (before p none));
+  fit = free.fit is.fit;
 }
   where
     before : (p : ℕ) → get new.processes p ≡ None → get old.processes p ≡ None
@@ -173,6 +181,7 @@ module _ (machine : Machine) (modes : Modes) (none : IsEmptyState modes.frames (
     free = tt;
     once = none_twice;
     unseen = λ p none. subst (HasNone p) (sym no_lists) (none_at_first p);
+    fit = λ p. fit_absent machine p (no_space_yet p);
   }
 
   no_books : books (spaces_of machine) ≡ empty
@@ -205,7 +214,8 @@ none_before machine spaces numbers n is absent = none_is (get machine.processes 
 module _ (old new : Machine) (spaces : List ℕ) (numbers left : List (List ℕ)) (n : ℕ) (is : IsSession old spaces numbers) (absent : has_space old n ≡ false)
     (number : is_number n ≡ true) (taken : IsPut numbers n false left)
     (there : has_space new n ≡ true) (none_awaits : (space_in (spaces_of new) n).awaiting ≡ empty)
-    (kept : is_marked new n ≡ has_saved new n) (others : StaysBut n old new) (lists : lists_of new ≡ lists_of old) where
+    (kept : is_marked new n ≡ has_saved new n) (others : StaysBut n old new) (lists : lists_of new ≡ lists_of old)
+    (here : HasFitPages (memory_of (spaces_of new) n)) where
   still_free : AllByRecursion (HasNoProcess new) spaces
   still_free = each (HasNoProcess old) (HasNoProcess new) spaces
       (λ q h. let other = not_next old n q absent h in (others.there q other ∙ h.0, others.processes q other ∙ h.1)) is.free
@@ -233,6 +243,7 @@ module _ (old new : Machine) (spaces : List ℕ) (numbers left : List (List ℕ)
     once = once;
     unseen = λ p none. subst (HasNone p) (sym lists) (by_key p n
         (λ same. is.unseen p (ap (get old.processes) same ∙ none_before old spaces numbers n is absent)) (λ other. is.unseen p (sym (others.processes p other) ∙ none)));
+    fit = fit_but old new n others.spaces here is.fit;
   }
 
   -- a process's, or one without a process
@@ -247,14 +258,16 @@ module _ (old new : Machine) (spaces : List ℕ) (numbers left : List (List ℕ)
       (λ q has. any_left q spaces n has) (λ none. any_last n spaces)
 
 pub session_load : (old new : Machine) (spaces : List ℕ) (numbers left : List (List ℕ)) (n : ℕ) (file : List ℕ) → IsSession old spaces numbers
-    → has_space old n ≡ false → is_number n ≡ true → IsPut numbers n false left → IsLoaded n file old new → IsSession new spaces left
-session_load old new spaces numbers left n file is absent number taken loaded =
+    → has_space old n ≡ false → is_number n ≡ true → IsPut numbers n false left → file_refusal file ≡ None → IsLoaded n file old new
+    → IsSession new spaces left
+session_load old new spaces numbers left n file is absent number taken none loaded =
     session_more old new spaces numbers left n is absent number taken loaded.there loaded.none_awaits
-    (mark_at new n (loaded_process file)
-    (ap (λ (ps : Processes). get ps n) loaded.like.processes ∙ get_same (wholes old).processes n n (loaded_process file) refl)
-    ∙ sym (ap saved_of here))
-    loaded.others loaded.like.translations (ap is_some here)
+    (mark_at new n (loaded_process file) shown ∙ sym (ap saved_of here))
+    loaded.others loaded.like.translations (subst HasFitPages (shown_memory new n (loaded_process file) shown) (fit_loaded file none)) (ap is_some here)
   where
+    shown : get (processes_of new) n ≡ Some (loaded_process file)
+    shown = ap (λ (ps : Processes). get ps n) loaded.like.processes ∙ get_same (wholes old).processes n n (loaded_process file) refl
+
     here : get new.processes n ≡ Some (shown_process (loaded_process file))
     here = ap (λ (ps : FinMap nat_cmp declared.Process). get ps n) loaded.processes ∙ get_same old.processes n n (shown_process (loaded_process file)) refl
 
@@ -279,6 +292,7 @@ free_before : (old new : Machine) → IsAsBefore old new → KeepsFree old new
 free_before old new same = record {
   spaces = λ q none. ap (λ (s : State). space_in s q) same.0;
   unseen = λ q none unlisted. subst (HasNone q) (sym same.1) unlisted;
+  fit = λ fit q. subst (λ (s : State). HasFitPages (memory_of s q)) (sym same.0) (fit q);
 }
 
 pub keeps_before : (old new : Machine) → IsAsBefore old new → KeepsSession old new
@@ -308,6 +322,9 @@ module _ (old new : Machine) (p : ℕ) (spaces : spaces_of new ≡ cut_space (sp
   pub same_left : (q : ℕ) → (q ≡ p → ⊥) → space_in (spaces_of new) q ≡ space_in (spaces_of old) q
   same_left q other = ap (λ (s : State). space_in s q) spaces ∙ space_left (spaces_of old) p q other
 
+  fit_left : HaveFitPages old → HaveFitPages new
+  fit_left fit = fit_but old new p same_left (fit_absent new p space_gone) fit
+
   pub session_cut : (kept rest : List ℕ) (numbers left : List (List ℕ)) → IsSession old kept numbers → IsPut numbers p true left → is_number p ≡ true
       → AllByRecursion (λ q. HasNoProcess old q × (q ≡ p → ⊥)) rest → IsDistinct nat_eq rest
       → ((q : ℕ) → (q ≡ p → ⊥) → list_any (λ x. x == q) kept ≡ true → list_any (λ x. x == q) rest ≡ true) → IsSession new rest left
@@ -335,12 +352,14 @@ module _ (old new : Machine) (p : ℕ) (spaces : spaces_of new ≡ cut_space (sp
     unseen = λ q none. subst (HasNone q) (sym lists) (by_key q p
         (λ same. subst (λ n. HasNone q (flushed n (lists_of old))) same (none_of_own q (lists_of old)))
         (λ other. none_flushed q p (lists_of old) (is.unseen q (sym (process_left q other) ∙ none))));
+    fit = fit_left is.fit;
   }
 
   pub free_cut : is_some (get old.processes p) ≡ true → KeepsFree old new
   free_cut there = record {
     spaces = λ q none. same_left q (not_free old p q there none);
     unseen = λ q none unlisted. subst (HasNone q) (sym lists) (none_flushed q p (lists_of old) unlisted);
+    fit = fit_left;
   }
 
 pub others_free : (machine : Machine) (p : ℕ) (spaces : List ℕ) → is_some (get machine.processes p) ≡ true → AllByRecursion (HasNoProcess machine) spaces

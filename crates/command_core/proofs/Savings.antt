@@ -32,6 +32,8 @@ use Rattle.command_core.proofs.Forkings.{mark_in}
 use Rattle.command_core.proofs.Keeping.{all_shown, each, found_has, more_shown, more_spaces, named_shown}
 use Rattle.command_core.proofs.Places.{free_same, free_stays, mark_at, marked_is, next_same, not_free, session_saved}
 use Rattle.command_core.proofs.Rows.{gives_found, gives_kept, row_accepted, row_refused}
+use Rattle.command_core.proofs.Fitting.{copied_fit, fit_but}
+use Rattle.delta_spaces.specs.Gathered.{HasFitPages}
 
 -- What a checkpoint and a restore come to.
 
@@ -166,7 +168,7 @@ module _ (old : Machine) (xs : List Kept) (breaks : Breaks) (p : ℕ) (name : Li
         let free = found_has name (HasNoProcess old) xs x is.free found in
         let put = put_is old (spaces_kept xs) numbers x is free in
         gives_kept (on_process p (restore_row p name)) old new xs breaks
-        (free_same old new (spaces_kept xs) (free_stays p old new copied.others (ap is_some there) (λ q other. restored_unseen old new _ _ _ copied.after q)) is.free) Done
+        (free_same old new (spaces_kept xs) (free_stays p old new copied.others (ap is_some there) (λ q other. restored_unseen old new _ _ _ copied.after q) (copied_fit (Some p) x.space p (kept_process x) old new copied)) is.free) Done
         (gives_by false (Some x) Done after marked found
         (row_accepted row before after refl enough
         (states_same after (accepts row before).after
@@ -189,7 +191,7 @@ session_of_saved old new xs numbers left q p x is lacks_space number taken none 
     let lacks : has_saved new q ≡ false = ap (λ (o : Option declared.Process). option_map_or (λ (y : declared.Process). is_some y.saved) o false) absent in
     subst (λ qs. IsSession new qs left) (sym (more_spaces xs x ∙ ap (λ n. spaces_kept xs ++ n ∷ []) space))
     (session_saved old new (spaces_kept xs) numbers left q is lacks_space number taken saved.there saved.none_awaits (saved.unmarked ∙ sym lacks) saved.others
-    (ap (λ (w : Wholes). w.translations) saved.after) absent)
+    (ap (λ (w : Wholes). w.translations) saved.after) (subst HasFitPages (sym saved.memory) (is.fit p)) absent)
 
 -- a process put in its place with a copy of a free space
 pub session_of_restored : (old new : Machine) (spaces : List ℕ) (numbers : List (List ℕ)) (p : ℕ) (x : Kept) → IsSession old spaces numbers
@@ -223,4 +225,5 @@ session_of_restored old new spaces numbers p x is there free (enough, copied) =
       free = each (HasNoProcess old) (HasNoProcess new) spaces (λ q h. (others.there q (other_than q h.1) ∙ h.0, others.processes q (other_than q h.1) ∙ h.1)) is.free;
       once = is.once;
       unseen = λ q none. restored_unseen old new _ _ _ copied.after q (is.unseen q (before q none));
+      fit = fit_but old new p others.spaces (copied_fit (Some p) x.space p (kept_process x) old new copied is.fit) is.fit;
     }

@@ -72,13 +72,7 @@ fn not_shared(error: DedupError) -> Answer
 }
 
 /// Puts the page of an address of process `p` on that of an address of process `q`. Takes no memory, and no units.
-pub(crate) fn dedup_page(
-    machine: &mut Machine,
-    p: u16,
-    address: u64,
-    q: u16,
-    other: u64,
-) -> Answer
+pub(crate) fn dedup_page(machine: &mut Machine, p: u16, address: u64, q: u16, other: u64) -> Answer
     requires own { OwnSpaces machine.old }
     requires none_awaits { NoPageAwaits machine.old }
     ensures done { MachineComesTo (dedup_row p address q other) machine.old result machine.new }

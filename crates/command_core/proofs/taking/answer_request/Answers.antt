@@ -2,6 +2,7 @@ use Rattle.machine_core.specs.Laws.{like_itself}
 use Rattle.machine_core.specs.Machine.{wholes}
 use Rattle.machine_core.specs.Turns.{after_asked}
 use Rattle.machine_core.specs.Absent.{none_after_asked}
+use Rattle.command_core.proofs.Fitting.{asked_leaves}
 use Rattle.command_core.proofs.Places.{free_turns}
 use Rattle.command_core.proofs.taking.answer_request.Goals as goal
 
@@ -17,3 +18,4 @@ returns-clause-free c =
     let p = c.args.p in
     free_turns p old c.answer.new.self (after_asked (wholes old) p) c.answer.ensures.others c.requires.runs (returns-clause-after c)
     (λ q other none. none_after_asked q p other (wholes old) none)
+    (asked_leaves p (wholes old))

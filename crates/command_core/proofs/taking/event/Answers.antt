@@ -2,6 +2,7 @@ use Rattle.machine_core.specs.Laws.{like_itself}
 use Rattle.machine_core.specs.Machine.{wholes}
 use Rattle.machine_core.specs.Turns.{after_turn}
 use Rattle.machine_core.specs.Absent.{none_after_turn}
+use Rattle.command_core.proofs.Fitting.{turn_leaves}
 use Rattle.command_core.proofs.Places.{free_turns}
 use Rattle.command_core.proofs.taking.event.Goals as goal
 
@@ -17,3 +18,4 @@ returns-clause-free c =
     let p = c.args.p in
     free_turns p old c.event.new.self (after_turn (wholes old) p) c.event.ensures.others c.requires.runs (returns-clause-after c)
     (λ q other none. none_after_turn q p other (wholes old) none)
+    (turn_leaves p (wholes old))

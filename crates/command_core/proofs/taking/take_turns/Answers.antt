@@ -7,6 +7,7 @@ use Rattle.breakpoints.specs.Breakpoints.{Breaks, addresses_of}
 use Rattle.machine_core.specs.Absent.{none_after_executions}
 use Rattle.machine_core.specs.Executions.{after_executions}
 use Rattle.command_core.specs.Sessions.{KeepsFree}
+use Rattle.command_core.proofs.Fitting.{executions_leave}
 use Rattle.command_core.proofs.Places.{free_then, free_turns}
 use Rattle.command_core.proofs.Stretching.{all_taken, asked_runs, fits_left, goes_on, last_turn, no_line, says_last}
 use Rattle.command_core.proofs.taking.take_turns.Goals as goal
@@ -17,6 +18,7 @@ executed_free : (breaks : Breaks) (p most : ℕ) (old new : Machine) → StaysBu
 executed_free breaks p most old new others runs after =
     free_turns p old new (after_executions (addresses_of breaks p) most (wholes old) p) others runs after
     (λ q other none. none_after_executions q p other (addresses_of breaks p) most (wholes old) none)
+    (executions_leave p (addresses_of breaks p) most (wholes old))
 
 pub took_turns-requires : goal.took_turns-requires
 took_turns-requires c =
