@@ -4,6 +4,7 @@ use Rattle.std.specs.FinMap.{get}
 use Rattle.sizes.specs.declared.TheConstants.{PAGE_BYTES}
 use Rattle.translation_cache.specs.Absent.{HasNone}
 use Rattle.space_maps.specs.Spaces.{page_in, space_in}
+use Rattle.overlay_pages.specs.State.{memory_of}
 use Rattle.ovl_io.specs.declared.turn.Turn.{Turn}
 use Rattle.ovl_io.specs.declared.turn.Turn.TheVariants as turn
 use Rattle.rv_execute.specs.Registers.{Registers, next}
@@ -14,6 +15,7 @@ use Rattle.machine_core.specs.Process.{Process}
 use Rattle.machine_core.specs.declared.process.Process as declared
 use Rattle.machine_core.specs.Machine.{AreLike, Machine, StaysBut, has_saved, has_space, is_marked, lists_of, spaces_of, unit_limit, whole_in, wholes}
 use Rattle.machine_core.specs.Turns.{Guest, guest_of, turn_asked, with_guest}
+use Rattle.machine_core.specs.PermsLaws.{HaveSamePerms}
 use Rattle.self_speculation.specs.Called.{CallRow, row_after, row_is_full, row_needs, row_of, row_turn}
 
 -- What a machine does at a request.
@@ -29,6 +31,10 @@ pub record KeepsPairs (old new : Machine) : Type 0 where
 -- what of another space was never translated still wasn't
 abbrev pub KeepsUnseen : ℕ → Machine → Machine → Type 0
 KeepsUnseen p old new = (q : ℕ) → (q ≡ p → ⊥) → HasNone q (lists_of old) → HasNone q (lists_of new)
+
+-- a space has the pages that it had, with the same permissions
+abbrev pub KeepsPerms : ℕ → Machine → Machine → Type 0
+KeepsPerms p old new = HaveSamePerms (memory_of (spaces_of old) p) (memory_of (spaces_of new) p)
 
 -- a turn that writes nothing and ends no process
 abbrev pub IsQuietTurn : Turn → Type 0

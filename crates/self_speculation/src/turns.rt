@@ -5,7 +5,7 @@ ghost use Rattle.std.specs.FinMap.{empty};
 ghost use Rattle.space_maps.specs.Spaces.{space_in};
 ghost use Rattle.machine_core.specs.Machine.{AnswersAs, LeadsTo, StaysBut, has_saved, has_space, is_marked, is_running, spaces_of, wholes};
 ghost use Rattle.self_speculation.specs.Taken.{AnswersRequest, after_taken, taken_turn};
-ghost use Rattle.self_speculation.specs.Requests.{IsAnswer, KeepsPairs, KeepsUnseen};
+ghost use Rattle.self_speculation.specs.Requests.{IsAnswer, KeepsPairs, KeepsPerms, KeepsUnseen};
 
 use crate::requests::answer_call;
 use machine_core::Machine;
@@ -23,6 +23,7 @@ pub fn answer(machine: &mut Machine, p: u16, calls: bool) -> Turn
     ensures others { StaysBut p machine.old machine.new }
     ensures pairs { KeepsPairs machine.old machine.new }
     ensures unseen { KeepsUnseen p machine.old machine.new }
+    ensures perms { KeepsPerms p machine.old machine.new }
     ensures came { IsAnswer p machine.old result }
 {
     if !calls {

@@ -1,9 +1,12 @@
 use Rattle.std.proofs.Common.{◌≡◌, ℕ, Bool, true, false, subst, sym, ap, ◌∙◌, inl, inr}
 use Rattle.translation_cache.specs.Absent.{HasNone}
 use Rattle.machine_core.specs.Machine.{AreLike, Machine, wholes}
+use Rattle.machine_core.specs.Turns.{after_asked}
 use Rattle.machine_core.specs.Absent.{none_after_asked}
+use Rattle.machine_core.specs.PermsLaws.{asked_leaves, perms_after}
 use Rattle.machine_core.specs.Laws.{like_itself}
 use Rattle.self_speculation.specs.Taken.{AnswersRequest}
+use Rattle.self_speculation.specs.PermsLaws.{call_keeps}
 use Rattle.self_speculation.proofs.Answering.{answers_asked, answers_call, answers_plain, none_after_row, quiet_call}
 use Rattle.self_speculation.proofs.turns.answer.Goals as goal
 
@@ -63,3 +66,23 @@ returns-in-None-answer_call-clause-unseen c q other none =
     let old = wholes c.args.machine.now in
     let like = subst (λ (m : Machine). AreLike (wholes m) old) (sym same) (like_itself old) in
     subst (HasNone q) (sym (c.answer-in-None-answer_call.ensures.stands old like).translations) (none_after_asked q c.args.p other old none)
+
+-- the same pages, with the same permissions
+pub returns-then-not-calls-clause-perms : goal.returns-then-not-calls-clause-perms
+returns-then-not-calls-clause-perms c =
+    let old = wholes c.args.machine.now in
+    perms_after c.args.machine.now c.answer.new.self c.args.p (after_asked old c.args.p) c.requires.runs
+    (asked_leaves c.args.p old) (c.answer.ensures.stands old (like_itself old))
+
+pub returns-in-Some-answer_call-clause-perms : goal.returns-in-Some-answer_call-clause-perms
+returns-in-Some-answer_call-clause-perms c =
+    let (at, call, were, is, does) = c.in-Some-answer_call.ensures.answers in
+    call_keeps c.args.p call c.in-Some.process.now at c.args.machine.now c.in-Some-answer_call.turn c.answer_call.new.machine does
+
+pub returns-in-None-answer_call-clause-perms : goal.returns-in-None-answer_call-clause-perms
+returns-in-None-answer_call-clause-perms c =
+    let (same, (at, were, is)) = c.in-None-answer_call.ensures.answers in
+    let old = wholes c.args.machine.now in
+    let like = subst (λ (m : Machine). AreLike (wholes m) old) (sym same) (like_itself old) in
+    perms_after c.args.machine.now c.answer-in-None-answer_call.new.self c.args.p (after_asked old c.args.p) c.requires.runs
+    (asked_leaves c.args.p old) (c.answer-in-None-answer_call.ensures.stands old like)
