@@ -32,6 +32,7 @@ module _ (machine : Machine) (on : Bool) where
     free = is.free;
     once = is.once;
     unseen = is.unseen;
+    fit = is.fit;
   }
 
 pub states_extended : (on : Bool) (a b : State) → AreLikeStates a b → AreLikeStates (extended on a) (extended on b)

@@ -25,6 +25,7 @@ use Rattle.command_core.proofs.Copies.{copy_keeps, gives_unmade}
 use Rattle.command_core.proofs.Places.{free_same, mark_at, marked_is, next_same, session_more}
 use Rattle.command_core.proofs.Breaks.{none_removed}
 use Rattle.command_core.proofs.Rows.{gives_found, gives_kept, row_accepted, row_refused}
+use Rattle.command_core.proofs.Fitting.{copied_fit}
 
 -- What a fork comes to.
 
@@ -90,4 +91,4 @@ session_forked old new spaces numbers left q p process is absent number taken th
     session_more old new spaces numbers left q is absent number taken copied.there copied.none_awaits
     (mark_at new q whole (ap (λ (w : Wholes). get w.processes q) copied.after ∙ get_same (wholes old).processes q q whole refl)
     ∙ marked_is (spaces_of old) p process (is_marked old p) refl ∙ is.kept p ∙ ap saved_of there ∙ sym (ap saved_of copied.adopted))
-    copied.others (ap (λ (w : Wholes). w.translations) copied.after) (ap is_some copied.adopted)
+    copied.others (ap (λ (w : Wholes). w.translations) copied.after) (copied_fit None p q process old new copied is.fit) (ap is_some copied.adopted)

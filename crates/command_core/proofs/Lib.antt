@@ -1,6 +1,7 @@
 mod Looking
 pub mod Entries
 pub mod Keeping
+pub mod Fitting
 pub mod Places
 pub mod Numbers
 pub mod Rows

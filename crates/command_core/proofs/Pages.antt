@@ -1,5 +1,5 @@
 use Rattle.std.proofs.Common.{◌≡◌, ℕ, zero, suc, ◌+◌, ◌-◌, ◌*◌, ◌/◌, ◌%◌, ◌<◌, ◌≤◌, ◌||◌, Bool, true, false, cond, nat_lt, nat_eq, sym, ap, subst, ◌∙◌, refl, arith, Option, Some, None}
-use Rattle.std.specs.Prelude.{[], ◌∷◌, ◌==◌, not, IsSome}
+use Rattle.std.specs.Prelude.{[], ◌∷◌, ◌==◌, not, IsSome, IsTrue}
 use Rattle.std.specs.Option.{is_some, option_map}
 use Rattle.std.specs.List.{fold, range_with_len}
 use Rattle.std.specs.FinMap.{get, insert, len, remove}
@@ -38,13 +38,16 @@ use Rattle.report_text.specs.declared.answer.Code.TheVariants.{Mapped, Outside}
 use Rattle.translation_cache.specs.Translations.{flushed}
 use Rattle.command_core.specs.declared.process_changes.ProcessChange.TheVariants.{Map, Unmap}
 use Rattle.command_core.specs.State.{Registry}
-use Rattle.command_core.specs.Sessions.{KeepsSession}
+use Rattle.command_core.specs.Sessions.{KeepsSession, HaveFitPages}
 use Rattle.command_core.specs.Rows.{Row, first_refusal}
 use Rattle.command_core.specs.Refusals.{are_too_many, has_page, lie_outside, lowest, map_refusals, place_refusals, unmap_refusals}
 use Rattle.command_core.specs.Mapping.{FindsGap, FindsMapped, RefusesMap, RefusesUnmap, lacks_page}
 use Rattle.command_core.specs.ProcessChanges.{ChangesProcess, process_row, pages_gone, pages_mapped, with_pages}
 use Rattle.command_core.proofs.Rows.{machine_done, machine_refused}
 use Rattle.command_core.proofs.Speculating.{kept_before, kept_by, put_again, saved_here, speculates, stays, wholes_are, wholes_left}
+use Rattle.command_core.proofs.Fitting.{fit_gone, fit_mapped}
+use Rattle.delta_image.specs.Fine.{are_perms}
+use Rattle.delta_spaces.specs.Gathered.{HasFitPages}
 
 -- Pages that are mapped, and that are given up.
 
@@ -309,11 +312,11 @@ module _ (p : ℕ) (process : declared.Process) (old : Machine) (memory : Transl
         (wholes_are p process old memory there e process (with_pages left before) (whole_is unmarked) is.others (Some p)
         (subst (AreAlike (books (state_of memory))) is.ledger (alike_itself (books (state_of memory)))) is.keeps.frames lists)
 
-    remade_stays : is_marked old p ≡ false → KeepsSession old mid
-    remade_stays unmarked =
+    remade_stays : is_marked old p ≡ false → (HaveFitPages old → HasFitPages left) → KeepsSession old mid
+    remade_stays unmarked fits =
         subst (KeepsSession old) (put_again p process old memory there)
         (stays p process old memory there e process (with_pages left before) (whole_is unmarked) is.others (Some p) lists is.keeps.there (is.keeps.awaiting p)
-        (λ h. is.keeps.marks p ∙ h ∙ saved_here p process old memory there))
+        (λ h. is.keeps.marks p ∙ h ∙ saved_here p process old memory there) fits)
 
   -- the refusal is that of the row
   map_refusal_is : (address n : ℕ) (perms : Perms) (o : Option Code) → o ≡ first_refusal (map_refusals address n (is_marked old p) (memory_of (spaces_of old) p))
@@ -341,14 +344,17 @@ module _ (p : ℕ) (process : declared.Process) (old : Machine) (memory : Transl
 
       pub mapped : holds_space (spaces_of old) p ≡ true → RefusesMap (spaces_of old) p address n None
           → state_of memory ≡ with_zeros (spaces_of old) p page n (record { perms = perms; frame = (spaces_of old).zero_frame })
-          → translations_of memory ≡ flushed p (lists_of old) → ChangesProcess p (Map address n perms) process old Done mid
-      mapped here (is, free) put lists =
+          → translations_of memory ≡ flushed p (lists_of old) → IsTrue (are_perms perms.0) → ChangesProcess p (Map address n perms) process old Done mid
+      mapped here (is, free) put lists fine =
           let e = event.Map p page n in
           let left = pages_mapped perms.0 page n (memory_of (spaces_of old) p) in
           let unmarked = unmarked_by _ _ _ is in
           let remade = remade_by e left (spaces_of old) _ (state_of memory) p put (zeros_put (spaces_of old) p page n perms here) in
           machine_done maps old mid (map_refusal_is address n perms None is) (λ kept breaks. refl) (λ r. refl) (λ kept breaks. remade_like e left remade lists unmarked)
-          (λ r. refl) (λ r. refl) (remade_stays e left remade lists unmarked)
+          (λ r. refl) (λ r. refl)
+          (remade_stays e left remade lists unmarked
+          (λ fit. fit_mapped perms.0 fine page n (memory_of (spaces_of old) p) (fit p)
+          (subst (λ k. k + n ≤ MOST_SPACE_PAGES) (sym (page_count (spaces_of old) p)) free.few)))
 
       pub map_refused : (code : Code) → RefusesMap (spaces_of old) p address n (Some code) → ChangesProcess p (Map address n perms) process old (Refused code) old
       map_refused code (is, told) = machine_refused maps old old code (map_refusal_is address n perms (Some code) is) refl
@@ -364,7 +370,7 @@ module _ (p : ℕ) (process : declared.Process) (old : Machine) (memory : Transl
         let unmarked = unmarked_by _ _ _ is in
         let remade = remade_by e left (spaces_of old) _ (state_of memory) p cut (pages_cut (spaces_of old) p page n here) in
         machine_done gives_up old mid (unmap_refusal_is address n None is) (λ kept breaks. refl) (λ r. refl) (λ kept breaks. remade_like e left remade lists unmarked)
-        (λ r. refl) (λ r. refl) (remade_stays e left remade lists unmarked)
+        (λ r. refl) (λ r. refl) (remade_stays e left remade lists unmarked (λ fit. fit_gone page n (memory_of (spaces_of old) p) (fit p)))
 
     pub unmap_refused : (code : Code) → RefusesUnmap (spaces_of old) p address n (Some code) → ChangesProcess p (Unmap address n) process old (Refused code) old
     unmap_refused code (is, told) = machine_refused gives_up old old code (unmap_refusal_is address n (Some code) is) refl

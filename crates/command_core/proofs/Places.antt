@@ -9,7 +9,9 @@ use Rattle.number_maps.specs.Keys.{alike, by_key, get_other, get_same, removed_o
 use Rattle.number_maps.specs.Views.{viewed, viewed_empty}
 use Rattle.sizes.specs.declared.TheConstants.{LAST_SPACE}
 use Rattle.overlay_pages.specs.Calls.{IsEmptyState}
-use Rattle.overlay_pages.specs.State.{SpaceState, State, base_of, books, held_page}
+use Rattle.overlay_pages.specs.State.{SpaceState, State, base_of, books, held_page, memory_of}
+use Rattle.delta_spaces.specs.Gathered.{HasFitPages}
+use Rattle.elf_loader.specs.Accepted.{file_refusal}
 use Rattle.translation_cache.specs.Translations.{flushed, no_translations}
 use Rattle.command_core.specs.declared.modes.Modes.{Modes}
 use Rattle.command_core.specs.State.{fresh}
@@ -25,16 +27,19 @@ use Rattle.machine_core.specs.Laws.{processes_at, runs_shown, whole_by}
 use Rattle.machine_core.specs.Load.{IsAsBefore, IsLoaded, loaded_process}
 use Rattle.round_robin.specs.MemberLaws.{next_has}
 use Rattle.round_robin.specs.Turns.{Turns, next_number}
-use Rattle.command_core.specs.Sessions.{HasNoProcess, IsSession, KeepsSession, bases_of}
+use Rattle.command_core.specs.Sessions.{HasNoProcess, HaveFitPages, IsSession, KeepsSession, bases_of}
 use Rattle.self_speculation.specs.Requests.{KeepsPairs}
 use Rattle.self_speculation.specs.RequestLaws.{places_pairs}
-use Rattle.process_runs.specs.Places.{KeepsFree, NoneGoes, OwnSpaces}
+use Rattle.ovl_io.specs.Memory.{Page}
+use Rattle.process_runs.specs.Places.{KeepsAllPerms, KeepsFree, NoneGoes, OwnSpaces}
 use Rattle.process_runs.specs.PlaceLaws.{none_is, not_free, free_start}
 use Rattle.free_numbers.specs.Numbers.{IsPut, is_in, is_number}
 use Rattle.overlay_bits.specs.Below.{and_false, and_true}
 use Rattle.translation_cache.specs.Absent.{HasNone, none_at_first, none_flushed, none_of_own}
 use Rattle.translation_cache.specs.Bare.{BareTranslations}
 use Rattle.command_core.specs.Rows.{flushed_by}
+use Rattle.machine_core.specs.PermsLaws.{memory_shown}
+use Rattle.command_core.proofs.Fitting.{fit_absent, fit_but, fit_loaded, fit_same}
 use Rattle.command_core.proofs.Keeping.{any_last, any_left, each, each_more, none_twice, once_more}
 
 -- Which spaces and processes are there.
@@ -68,9 +73,9 @@ mark_at machine p whole there = by_found (get machine.processes p) (sym (process
 
 -- what a session keeps stays so
 
-pub session_kept : (old new : Machine) (spaces : List ℕ) (numbers : List (List ℕ)) → IsSession old spaces numbers → KeepsPairs old new → KeepsFree old new
+pub session_kept : (old new : Machine) (spaces : List ℕ) (numbers : List (List ℕ)) → IsSession old spaces numbers → KeepsPairs old new → KeepsFree old new → KeepsAllPerms old new
     → IsSession new spaces numbers
-session_kept old new spaces numbers is same free = record {
+session_kept old new spaces numbers is same free perms = record {
   are_free = λ p. is.are_free p ∙ ap (λ b. is_number p && not b) (sym (same.spaces p));
   in_range = λ p some. is.in_range p (sym (same.spaces p) ∙ some);
   own_space = λ p some. same.spaces p ∙ is.own_space p (sym (same.processes p) ∙ some);
@@ -81,6 +86,7 @@ session_kept old new spaces numbers is same free = record {
       (λ q h. (same.spaces q ∙ h.0, none_is (get new.processes q) (same.processes q ∙ ap is_some h.1))) is.free;
   once = is.once;
   unseen = λ p none. free.unseen p (before p none) (is.unseen p (before p none));
+  fit = λ p. fit_same (memory_of (spaces_of old) p) (memory_of (spaces_of new) p) (perms p) (is.fit p);
 }
   where
     before : (p : ℕ) → get new.processes p ≡ None → get old.processes p ≡ None
@@ -104,6 +110,7 @@ module _ (machine : Machine) (modes : Modes) (none : IsEmptyState modes.frames (
     free = tt;
     once = none_twice;
     unseen = λ p none. subst (HasNone p) (sym no_lists) (none_at_first p);
+    fit = λ p. fit_absent machine p (no_space_yet p);
   }
 
   no_books : books (spaces_of machine) ≡ empty
@@ -136,7 +143,8 @@ none_before machine spaces numbers n is absent = none_is (get machine.processes 
 module _ (old new : Machine) (spaces : List ℕ) (numbers left : List (List ℕ)) (n : ℕ) (is : IsSession old spaces numbers) (absent : has_space old n ≡ false)
     (number : is_number n ≡ true) (taken : IsPut numbers n false left)
     (there : has_space new n ≡ true) (none_awaits : (space_in (spaces_of new) n).awaiting ≡ empty)
-    (kept : is_marked new n ≡ has_saved new n) (others : StaysBut n old new) (lists : lists_of new ≡ lists_of old) where
+    (kept : is_marked new n ≡ has_saved new n) (others : StaysBut n old new) (lists : lists_of new ≡ lists_of old)
+    (here : HasFitPages (memory_of (spaces_of new) n)) where
   still_free : AllByRecursion (HasNoProcess new) spaces
   still_free = each (HasNoProcess old) (HasNoProcess new) spaces
       (λ q h. let other = not_next old n q absent h in (others.there q other ∙ h.0, others.processes q other ∙ h.1)) is.free
@@ -164,6 +172,7 @@ module _ (old new : Machine) (spaces : List ℕ) (numbers left : List (List ℕ)
     once = once;
     unseen = λ p none. subst (HasNone p) (sym lists) (by_key p n
         (λ same. is.unseen p (ap (get old.processes) same ∙ none_before old spaces numbers n is absent)) (λ other. is.unseen p (sym (others.processes p other) ∙ none)));
+    fit = fit_but old new n others.spaces here is.fit;
   }
 
   -- a process's, or one without a process
@@ -178,14 +187,16 @@ module _ (old new : Machine) (spaces : List ℕ) (numbers left : List (List ℕ)
       (λ q has. any_left q spaces n has) (λ none. any_last n spaces)
 
 pub session_load : (old new : Machine) (spaces : List ℕ) (numbers left : List (List ℕ)) (n : ℕ) (file : List ℕ) → IsSession old spaces numbers
-    → has_space old n ≡ false → is_number n ≡ true → IsPut numbers n false left → IsLoaded n file old new → IsSession new spaces left
-session_load old new spaces numbers left n file is absent number taken loaded =
+    → has_space old n ≡ false → is_number n ≡ true → IsPut numbers n false left → file_refusal file ≡ None → IsLoaded n file old new
+    → IsSession new spaces left
+session_load old new spaces numbers left n file is absent number taken none loaded =
     session_more old new spaces numbers left n is absent number taken loaded.there loaded.none_awaits
-    (mark_at new n (loaded_process file)
-    (ap (λ (ps : Processes). get ps n) loaded.like.processes ∙ get_same (wholes old).processes n n (loaded_process file) refl)
-    ∙ sym (ap saved_of here))
-    loaded.others loaded.like.translations (ap is_some here)
+    (mark_at new n (loaded_process file) shown ∙ sym (ap saved_of here))
+    loaded.others loaded.like.translations (subst HasFitPages (memory_shown new n (loaded_process file) shown) (fit_loaded file none)) (ap is_some here)
   where
+    shown : get (processes_of new) n ≡ Some (loaded_process file)
+    shown = ap (λ (ps : Processes). get ps n) loaded.like.processes ∙ get_same (wholes old).processes n n (loaded_process file) refl
+
     here : get new.processes n ≡ Some (shown_process (loaded_process file))
     here = ap (λ (ps : FinMap nat_cmp declared.Process). get ps n) loaded.processes ∙ get_same old.processes n n (shown_process (loaded_process file)) refl
 
@@ -212,9 +223,12 @@ free_before old new same = record {
   unseen = λ q none unlisted. subst (HasNone q) (sym same.1) unlisted;
 }
 
+perms_before : (old new : Machine) → IsAsBefore old new → KeepsAllPerms old new
+perms_before old new same q at = ap (λ (s : State). option_map (λ (page : Page). page.perms) (get (memory_of s q) at)) same.0
+
 pub keeps_before : (old new : Machine) → IsAsBefore old new → KeepsSession old new
 keeps_before old new same = record {
-  session = λ spaces numbers is. session_kept old new spaces numbers is (places_pairs old new (places_before old new same)) (free_before old new same);
+  session = λ spaces numbers is. session_kept old new spaces numbers is (places_pairs old new (places_before old new same)) (free_before old new same) (perms_before old new same);
   free = free_before old new same;
   stay = λ q none. ap (λ m. get m q) (sym same.2) ∙ none;
 }
@@ -238,6 +252,9 @@ module _ (old new : Machine) (p : ℕ) (spaces : spaces_of new ≡ cut_space (sp
 
   pub same_left : (q : ℕ) → (q ≡ p → ⊥) → space_in (spaces_of new) q ≡ space_in (spaces_of old) q
   same_left q other = ap (λ (s : State). space_in s q) spaces ∙ space_left (spaces_of old) p q other
+
+  fit_left : HaveFitPages old → HaveFitPages new
+  fit_left fit = fit_but old new p same_left (fit_absent new p space_gone) fit
 
   pub session_cut : (kept rest : List ℕ) (numbers left : List (List ℕ)) → IsSession old kept numbers → IsPut numbers p true left → is_number p ≡ true
       → AllByRecursion (λ q. HasNoProcess old q × (q ≡ p → ⊥)) rest → IsDistinct nat_eq rest
@@ -266,6 +283,7 @@ module _ (old new : Machine) (p : ℕ) (spaces : spaces_of new ≡ cut_space (sp
     unseen = λ q none. subst (HasNone q) (sym lists) (by_key q p
         (λ same. subst (λ n. HasNone q (flushed n (lists_of old))) same (none_of_own q (lists_of old)))
         (λ other. none_flushed q p (lists_of old) (is.unseen q (sym (process_left q other) ∙ none))));
+    fit = fit_left is.fit;
   }
 
   pub free_cut : is_some (get old.processes p) ≡ true → KeepsFree old new

@@ -32,4 +32,4 @@ module _ (p register value : ℕ) (process : declared.Process) (old : Machine) (
       (λ kept breaks. wholes_are p process old old.memory there event.Other put (after_set register value before) put_is (λ q other. refl) None (alike_itself (books (spaces_of old))) refl refl)
       (λ r. refl) (λ r. refl)
       (stays p process old old.memory there event.Other put (after_set register value before) put_is (λ q other. refl) None refl (λ q. refl) refl
-      (λ h. h ∙ saved_here p process old old.memory there))
+      (λ h. h ∙ saved_here p process old old.memory there) (λ fit. fit p))

@@ -33,6 +33,8 @@ use Rattle.command_core.proofs.Keeping.{all_shown, each, found_has, more_shown, 
 use Rattle.command_core.proofs.Places.{free_same, mark_at, marked_is, next_same, session_saved}
 use Rattle.process_runs.specs.PlaceLaws.{free_stays, not_free}
 use Rattle.command_core.proofs.Rows.{gives_found, gives_kept, row_accepted, row_refused}
+use Rattle.command_core.proofs.Fitting.{copied_fit, fit_but}
+use Rattle.delta_spaces.specs.Gathered.{HasFitPages}
 
 -- What a checkpoint and a restore come to.
 
@@ -190,7 +192,7 @@ session_of_saved old new xs numbers left q p x is lacks_space number taken none 
     let lacks : has_saved new q ≡ false = ap (λ (o : Option declared.Process). option_map_or (λ (y : declared.Process). is_some y.saved) o false) absent in
     subst (λ qs. IsSession new qs left) (sym (more_spaces xs x ∙ ap (λ n. spaces_kept xs ++ n ∷ []) space))
     (session_saved old new (spaces_kept xs) numbers left q is lacks_space number taken saved.there saved.none_awaits (saved.unmarked ∙ sym lacks) saved.others
-    (ap (λ (w : Wholes). w.translations) saved.after) absent)
+    (ap (λ (w : Wholes). w.translations) saved.after) (subst HasFitPages (sym saved.memory) (is.fit p)) absent)
 
 -- a process put in its place with a copy of a free space
 pub session_of_restored : (old new : Machine) (spaces : List ℕ) (numbers : List (List ℕ)) (p : ℕ) (x : Kept) → IsSession old spaces numbers
@@ -224,4 +226,5 @@ session_of_restored old new spaces numbers p x is there free (enough, copied) =
       free = each (HasNoProcess old) (HasNoProcess new) spaces (λ q h. (others.there q (other_than q h.1) ∙ h.0, others.processes q (other_than q h.1) ∙ h.1)) is.free;
       once = is.once;
       unseen = λ q none. restored_unseen old new _ _ _ copied.after q (is.unseen q (before q none));
+      fit = fit_but old new p others.spaces (copied_fit (Some p) x.space p (kept_process x) old new copied is.fit) is.fit;
     }

@@ -33,12 +33,15 @@ use Rattle.report_text.specs.declared.answer.Code.TheVariants.{Ended, Speculatin
 use Rattle.command_core.specs.declared.process_changes.ProcessChange.{ProcessChange}
 use Rattle.command_core.specs.declared.process_changes.ProcessChange.TheVariants.{Speculate, Commit, Discard, Promote, PromoteAll}
 use Rattle.command_core.specs.State.{Registry}
-use Rattle.command_core.specs.Sessions.{HasNoProcess, KeepsSession}
+use Rattle.command_core.specs.Sessions.{HasNoProcess, HaveFitPages, KeepsSession}
+use Rattle.delta_spaces.specs.Gathered.{HasFitPages}
 use Rattle.command_core.specs.Rows.{Row, first_refusal, flushed_by, ledger_by, plain_row, refused_if, refused_row}
 use Rattle.command_core.specs.Giving.{MachineGives}
 use Rattle.command_core.specs.Refusals.{by_speculating}
 use Rattle.command_core.specs.ProcessChanges.{ChangesProcess, after_commit, after_discard, after_speculate, leaves, process_row, promotion_answer, speculation_answer}
 use Rattle.command_core.proofs.Keeping.{each}
+use Rattle.machine_core.specs.PermsLaws.{base_same}
+use Rattle.command_core.proofs.Fitting.{fit_but, fit_same}
 use Rattle.command_core.proofs.Places.{marked_is, none_flushed_by, processes_put}
 use Rattle.process_runs.specs.PlaceLaws.{none_is, not_free}
 use Rattle.free_numbers.specs.Numbers.{is_number}
@@ -98,8 +101,11 @@ module _ (p : ℕ) (process : declared.Process) (old : Machine) (memory : Transl
 
     pub stays : (flushes : Option ℕ) → translations_of memory ≡ flushed_by flushes (lists_of old) → ((q : ℕ) → holds_space (state_of memory) q ≡ holds_space (spaces_of old) q)
         → (space_in (state_of memory) p).awaiting ≡ (space_in (spaces_of old) p).awaiting
-        → (is_marked old p ≡ has_saved old p → (space_in (state_of memory) p).speculating ≡ is_some put.saved) → KeepsSession old new
-    stays flushes lists spaces awaiting kept =
+        → (is_marked old p ≡ has_saved old p → (space_in (state_of memory) p).speculating ≡ is_some put.saved)
+        → (HaveFitPages old → HasFitPages left.memory) → KeepsSession old new
+    stays flushes lists spaces awaiting kept fits =
+        let fit : HaveFitPages old → HaveFitPages new =
+        λ h. fit_but old new p others (subst HasFitPages (sym (ap (λ (x : Process). x.memory) is)) (fits h)) h in
         let found : (q : ℕ) → is_some (get new.processes q) ≡ is_some (get old.processes q) = λ q. by_key q p
         (λ same. ap is_some (get_same old.processes p q put same) ∙ sym (ap (λ n. is_some (get old.processes n)) same ∙ ap is_some there))
         (λ other. ap is_some (get_other old.processes p q put other)) in
@@ -120,6 +126,7 @@ module _ (p : ℕ) (process : declared.Process) (old : Machine) (memory : Transl
             free = each (HasNoProcess old) (HasNoProcess new) free_spaces (λ q h. (spaces q ∙ h.0, none_is (get new.processes q) (found q ∙ ap is_some h.1))) session.free;
             once = session.once;
             unseen = λ q none. unlisted q (session.unseen q (none_is (get old.processes q) (sym (found q) ∙ ap is_some none)));
+            fit = fit session.fit;
           };
           free = record { spaces = λ q none. others q (not_free old p q (ap is_some there) none); unseen = λ q none. unlisted q };
           stay = λ q none. none_is (get old.processes q) (sym (found q) ∙ ap is_some none);
@@ -169,7 +176,7 @@ module _ (p : ℕ) (process : declared.Process) (old : Machine) (memory : Transl
       λ i. record { registers = process.regs; state = process.state; memory = s.memory i; kept = kept i } in
       machine_done begins old (with_process_at mid p begun) (start_refusal false run unmarked) (λ kept breaks. fits (event.Settle p) old within) (λ r. refl)
       (λ kept breaks. wholes_are (event.Settle p) begun (after_speculate before) is s.others (Some p) has.ledger s.frames lists) (λ r. refl) (λ r. refl)
-      (stays (event.Settle p) begun (after_speculate before) is s.others (Some p) lists s.spaces s.awaiting (λ h. s.marked))
+      (stays (event.Settle p) begun (after_speculate before) is s.others (Some p) lists s.spaces s.awaiting (λ h. s.marked) (λ fit. fit p))
 
   pub not_started : (e : SpeculationError) → Starts old.memory memory p (Err e) → runs process.state ≡ true → ChangesProcess p Speculate process old (speculation_answer e) mid
   not_started speculation.Speculating had run = machine_refused begins old mid Speculating (start_refusal true run had.mark_is) (ap (with_memory old) had.kept)
@@ -196,7 +203,7 @@ module _ (p : ℕ) (process : declared.Process) (old : Machine) (memory : Transl
       λ i. record { registers = process.regs; state = process.state; memory = s.memory i; kept = kept i } in
       machine_done (ends Commit) old (with_process_at mid p forgotten) (λ r. end_refusal true marked) (λ kept breaks. refl) (λ r. refl)
       (λ kept breaks. wholes_are (event.Commit p) forgotten (after_commit before) is s.others (Some p) has.ledger s.frames lists) (λ r. refl) (λ r. refl)
-      (stays (event.Commit p) forgotten (after_commit before) is s.others (Some p) lists s.spaces s.awaiting (λ h. s.marked))
+      (stays (event.Commit p) forgotten (after_commit before) is s.others (Some p) lists s.spaces s.awaiting (λ h. s.marked) (λ fit. fit p))
 
   pub not_committed : (e : SpeculationError) → Commits old.memory memory p (Err e) → ChangesProcess p Commit process old (speculation_answer e) mid
   not_committed speculation.Speculating h = absurd h
@@ -228,7 +235,8 @@ module _ (p : ℕ) (process : declared.Process) (old : Machine) (memory : Transl
       subst (λ (o : Option Whole). MachineGives (goes_back o) old Done (with_process_at mid p (again saved))) (sym was)
       (machine_done (goes_back (Some whole)) old (with_process_at mid p (again saved)) (λ r. refl) (λ kept breaks. refl) (λ r. refl)
       (λ kept breaks. wholes_are (event.Discard p) (again saved) (after_discard whole) is has.others (Some p) ledger has.frames lists) (λ r. refl) (λ r. refl)
-      (stays (event.Discard p) (again saved) (after_discard whole) is has.others (Some p) lists has.spaces has.awaiting (λ h. has.marked)))
+      (stays (event.Discard p) (again saved) (after_discard whole) is has.others (Some p) lists has.spaces has.awaiting (λ h. has.marked)
+      (λ fit. fit_same (memory_of (spaces_of old) p) (base_of (spaces_of old) p) (base_same (spaces_of old) p) (fit p))))
 
   pub not_discarded : (e : SpeculationError) → Discards old.memory memory p (Err e) → ChangesProcess p Discard process old (speculation_answer e) mid
   not_discarded speculation.Speculating h = absurd h
@@ -253,7 +261,8 @@ module _ (p : ℕ) (process : declared.Process) (old : Machine) (memory : Transl
         (wholes_are e process before process_is s.others (Some p) ledger s.frames lists))
 
     pub same_stays : KeepsSession old mid
-    same_stays = subst (KeepsSession old) put_again (stays e process before process_is s.others (Some p) lists s.spaces s.awaiting (λ h. s.marked ∙ h ∙ saved_here))
+    same_stays = subst (KeepsSession old) put_again (stays e process before process_is s.others (Some p) lists s.spaces s.awaiting (λ h. s.marked ∙ h ∙ saved_here)
+        (λ fit. fit p))
 
   -- Pages are promoted.
   settled_same : (which : ℕ → Bool) → AreInFrames which (is_marked old p) (spaces_of old) (state_of memory) p → IsSeenSame p (spaces_of old) (state_of memory)

@@ -31,6 +31,8 @@ use Rattle.command_core.specs.ProcessChanges.{with_pages}
 use Rattle.command_core.specs.Debugging.{poke_answer, poke_refused, poke_row}
 use Rattle.command_core.proofs.Rows.{fits, is_short, machine_done, machine_full, machine_refused}
 use Rattle.command_core.proofs.Speculating.{kept_before, kept_by, put_again, saved_here, speculates, stays, wholes_are, wholes_left}
+use Rattle.machine_core.specs.PermsLaws.{bytes_same}
+use Rattle.command_core.proofs.Fitting.{fit_same}
 
 -- Bytes that are stored in the memory of a process.
 
@@ -88,7 +90,8 @@ module _ (p : ℕ) (process : declared.Process) (old : Machine) (memory : Transl
     poked_stays : KeepsSession old mid
     poked_stays =
         subst (KeepsSession old) (put_again p process old memory there)
-        (stays p process old memory there stored process left whole_is s.others None lists s.spaces s.awaiting (λ h. s.mark ∙ h ∙ saved_here p process old memory there))
+        (stays p process old memory there stored process left whole_is s.others None lists s.spaces s.awaiting (λ h. s.mark ∙ h ∙ saved_here p process old memory there)
+        (λ fit. fit_same before.memory (with_bytes before.memory address bytes) (bytes_same before.memory address bytes) (fit p)))
 
     -- there are units enough
     within : Fits (state_of memory) → FitsAfter stored (spaces_of old)

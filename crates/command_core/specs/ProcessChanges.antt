@@ -1,4 +1,5 @@
-use Rattle.std.specs.Prelude.{ℕ, ◌/◌, not, true, false, [], ◌∷◌, nat_lt, if◌then◌else◌, Some, None}
+use Rattle.std.specs.Prelude.{ℕ, ◌/◌, not, true, false, IsTrue, [], ◌∷◌, nat_lt, if◌then◌else◌, Some, None}
+use Rattle.delta_image.specs.Fine.{are_perms}
 use Rattle.std.specs.Option.{option_map_or}
 use Rattle.std.specs.List.{fold, range_with_len}
 use Rattle.std.specs.FinMap.{insert, remove}
@@ -80,6 +81,17 @@ process_row p (Unmap address n) process registry =
     plain_row false (Some p) (unmap_refusals address n (is_speculating process) process.memory) (event.Unmap p (address / PAGE_BYTES) n)
     (leaves p (with_pages (pages_gone (address / PAGE_BYTES) n process.memory) process) registry)
 process_row p (Set register value) process registry = plain_row false None [] event.Other (leaves p (after_set register value process) registry)
+
+-- in the permissions of pages that are mapped W comes with R
+abbrev pub IsFineChange : ProcessChange → Type 0
+IsFineChange Speculate = Unit {0}
+IsFineChange Commit = Unit {0}
+IsFineChange Discard = Unit {0}
+IsFineChange (Promote address) = Unit {0}
+IsFineChange PromoteAll = Unit {0}
+IsFineChange (Map address n perms) = IsTrue (are_perms perms.0)
+IsFineChange (Unmap address n) = Unit {0}
+IsFineChange (Set register value) = Unit {0}
 
 -- what a machine answers of one of them, at a process that stood in its place
 abbrev pub ChangesProcess : ℕ → ProcessChange → declared.Process → Machine → Answer → Machine → Type 0

@@ -5,7 +5,8 @@ use Rattle.std.specs.Ordering.{nat_cmp}
 use Rattle.std.specs.FinMap.{FinMap, empty, get}
 use Rattle.number_maps.specs.Views.{viewed}
 use Rattle.ovl_io.specs.Memory.{Memory}
-use Rattle.overlay_pages.specs.State.{State as Spaces, base_of}
+use Rattle.overlay_pages.specs.State.{State as Spaces, base_of, memory_of}
+use Rattle.delta_spaces.specs.Gathered.{HasFitPages}
 use Rattle.unit_map.specs.Pieces.{Piece, count}
 use Rattle.breakpoints.specs.Breakpoints.{Breaks}
 use Rattle.free_numbers.specs.Numbers.{is_in, is_number}
@@ -26,9 +27,14 @@ HasNoProcess machine q = (has_space machine q ≡ true) × (get machine.processe
 abbrev pub NoneSeen : Machine → Type 0
 NoneSeen machine = (p : ℕ) → get machine.processes p ≡ None → HasNone p (lists_of machine)
 
+-- the pages of each space are such as an image may have: at most 131,072, and in the permissions of each W comes with R
+abbrev pub HaveFitPages : Machine → Type 0
+HaveFitPages machine = (p : ℕ) → HasFitPages (memory_of (spaces_of machine) p)
+
 -- A session keeps a machine, the spaces of checkpoints, and which numbers are free: those of spaces that aren't there. Each process has its
 -- memory, and each other space is a checkpoint's, which has no process and no other checkpoint. No page awaits being shared, registers and
--- state are kept of exactly those processes whose spaces are marked as speculating, and nothing was translated but for processes.
+-- state are kept of exactly those processes whose spaces are marked as speculating, nothing was translated but for processes, and each space
+-- could be an image.
 pub record IsSession (machine : Machine) (spaces : List ℕ) (numbers : List (List ℕ)) : Type 0 where
   pub are_free : (p : ℕ) → is_in numbers p ≡ (is_number p && not (has_space machine p))
   pub in_range : (p : ℕ) → has_space machine p ≡ true → is_number p ≡ true
@@ -39,6 +45,7 @@ pub record IsSession (machine : Machine) (spaces : List ℕ) (numbers : List (Li
   pub free : AllByRecursion (HasNoProcess machine) spaces
   pub once : IsDistinct nat_eq spaces
   pub unseen : NoneSeen machine
+  pub fit : HaveFitPages machine
 
 -- what a machine is a session of, another one is too, its checkpoints are as they were, and so are the numbers of its processes
 pub record KeepsSession (old new : Machine) : Type 0 where

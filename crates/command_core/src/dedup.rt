@@ -1,18 +1,14 @@
 //! Pages of a process that are put on the frames of another one's pages.
 
-ghost use Rattle.std.specs.Prelude.{◌≡◌, ◌/◌, IfSome, is_some};
+ghost use Rattle.std.specs.Prelude.{◌≡◌, IfSome, is_some};
 ghost use Rattle.std.specs.FinMap.{get};
-ghost use Rattle.sizes.specs.declared.TheConstants.{PAGE_BYTES};
-ghost use Rattle.space_maps.specs.Spaces.{page_in};
 ghost use Rattle.machine_core.specs.Machine.{processes_of};
-ghost use Rattle.overlay_memory.specs.View.{state_of};
 ghost use Rattle.report_text.specs.Answers.{HasAnswerLine, HasCodeLine};
 ghost use Rattle.command_core.specs.Deduplication.{MachineComesTo, dedup_all_row, dedup_code, dedup_row, pair_refusals};
 ghost use Rattle.command_core.specs.Rows.{first_refusal};
 ghost use Rattle.process_runs.specs.Places.{NoPageAwaits, OwnSpaces};
 
 use machine_core::Machine;
-use overlay_memory::OverlayMemory;
 use page_dedup::{DedupError, deduplicate, deduplicate_all};
 use report_text::{Answer, Code};
 use sizes::PAGE_BYTES;
@@ -48,17 +44,6 @@ fn pair_refusal(machine: &Machine, p: u16, q: u16) -> Option<Code>
     None
 }
 
-/// Whether the page of an address is there.
-fn has_page(memory: &OverlayMemory, p: u16, address: u64) -> bool
-    ensures { result ≡ is_some (page_in (state_of memory.now) p (address / PAGE_BYTES)) }
-{
-    let page = address / PAGE_BYTES as u64;
-    match memory.next_page(p, page) {
-        Some(found) => found == page,
-        None => false,
-    }
-}
-
 /// What is answered where a page isn't put on another one.
 fn not_shared(error: DedupError) -> Answer
     ensures answer { result ≡ Answer.Refused (dedup_code error) }
@@ -72,13 +57,7 @@ fn not_shared(error: DedupError) -> Answer
 }
 
 /// Puts the page of an address of process `p` on that of an address of process `q`. Takes no memory, and no units.
-pub(crate) fn dedup_page(
-    machine: &mut Machine,
-    p: u16,
-    address: u64,
-    q: u16,
-    other: u64,
-) -> Answer
+pub(crate) fn dedup_page(machine: &mut Machine, p: u16, address: u64, q: u16, other: u64) -> Answer
     requires own { OwnSpaces machine.old }
     requires none_awaits { NoPageAwaits machine.old }
     ensures done { MachineComesTo (dedup_row p address q other) machine.old result machine.new }
@@ -88,10 +67,10 @@ pub(crate) fn dedup_page(
         Some(code) => return Answer::Refused(code),
         None => {}
     }
-    if !has_page(machine.memory(), p, address) {
+    if !machine.memory().has_page(p, address / PAGE_BYTES as u64) {
         return Answer::Refused(Code::Unmapped(address));
     }
-    if !has_page(machine.memory(), q, other) {
+    if !machine.memory().has_page(q, other / PAGE_BYTES as u64) {
         return Answer::Refused(Code::Unmapped(other));
     }
     let page = address / PAGE_BYTES as u64;

@@ -1,6 +1,7 @@
 //! Pages of a process that are mapped, and that are given up.
 
-ghost use Rattle.std.specs.Prelude.{◌≡◌, ◌≤◌, ◌+◌, ◌*◌, Some, true};
+ghost use Rattle.std.specs.Prelude.{◌≡◌, ◌≤◌, ◌+◌, ◌*◌, IsTrue, Some, true};
+ghost use Rattle.delta_image.specs.Fine.{are_perms};
 ghost use Rattle.std.specs.FinMap.{empty, get};
 ghost use Rattle.sizes.specs.declared.TheConstants.{PAGE_BYTES, PAGE_END};
 ghost use Rattle.overlay_memory.specs.View.{state_of};
@@ -113,6 +114,7 @@ pub(crate) fn map_pages(
     requires there { get machine.old.processes p ≡ Some process }
     requires space { has_space machine.old p ≡ true }
     requires none_awaits { (space_in (spaces_of machine.old) p).awaiting ≡ empty }
+    requires fine { IsTrue (are_perms perms.0) }
     ensures done { ChangesProcess p (ProcessChange.Map address n perms) process
         machine.old result machine.new }
     ensures told { CanBeTold result }

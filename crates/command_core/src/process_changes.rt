@@ -5,7 +5,7 @@ ghost use Rattle.std.specs.FinMap.{empty, get};
 ghost use Rattle.space_maps.specs.Spaces.{space_in};
 ghost use Rattle.machine_core.specs.Machine.{has_saved, has_space, is_marked, spaces_of};
 ghost use Rattle.command_core.specs.Changes.{CanBeTold};
-ghost use Rattle.command_core.specs.ProcessChanges.{ChangesProcess, promotion_answer, set_register, speculation_answer};
+ghost use Rattle.command_core.specs.ProcessChanges.{ChangesProcess, IsFineChange, promotion_answer, set_register, speculation_answer};
 
 use crate::mapping::{map_pages, unmap_pages};
 use machine_core::{Machine, Process, SavedRegs};
@@ -234,6 +234,7 @@ pub(crate) fn change_process(
     requires space { has_space machine.old p ≡ true }
     requires none_awaits { (space_in (spaces_of machine.old) p).awaiting ≡ empty }
     requires kept { is_marked machine.old p ≡ has_saved machine.old p }
+    requires fine { IsFineChange change }
     ensures done { ChangesProcess p change process machine.old result machine.new }
     ensures told { CanBeTold result }
 {

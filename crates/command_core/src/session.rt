@@ -8,7 +8,7 @@ ghost use Rattle.command_core.specs.Giving.{GivesChange, WantKeeps};
 ghost use Rattle.command_core.specs.Deduplication.{dedup_all_row, dedup_row};
 ghost use Rattle.command_core.specs.Rows.{registered, still_row};
 ghost use Rattle.command_core.specs.Copies.{fork_row};
-ghost use Rattle.command_core.specs.ProcessChanges.{process_row};
+ghost use Rattle.command_core.specs.ProcessChanges.{IsFineChange, process_row};
 ghost use Rattle.command_core.specs.Debugging.{break_row, poke_row, unbreak_row};
 ghost use Rattle.command_core.specs.Checkpoints.{checkpoint_row, forget_row, on_checkpoint, restore_row};
 ghost use Rattle.command_core.specs.Changes.{CanBeTold, TakesText, answer_of, asm_row, drop_row, load_row, on_process, row_in};
@@ -345,6 +345,7 @@ impl Session {
     /// Does a change to a process: a speculation begins or ends, pages are promoted, mapped or given up, or a register is set. Answers what came of it, or why
     /// it wasn't done. `Full` exactly where it isn't refused and the units after it would exceed the limit.
     fn change_process(&mut self, p: u16, change: ProcessChange) -> Answer
+        requires { IsFineChange change }
         ensures gives { GivesChange (on_process p (process_row p change) (registry_of self.old.state))
             self.old.state result self.new.state }
         ensures want { WantKeeps self.old result self.new }
@@ -568,7 +569,13 @@ impl Session {
         ensures { result ≡ run_found self.now.state.breakpoints self.now.state.wholes
             (begun_by order self.now.modes.calls turns) }
     {
-        begin(&self.machine, &self.breakpoints, order, self.modes.calls, turns)
+        begin(
+            &self.machine,
+            &self.breakpoints,
+            order,
+            self.modes.calls,
+            turns,
+        )
     }
 
     /// Takes the next turn, and answers whose it was and what came of it. None exactly where an ending was found before,

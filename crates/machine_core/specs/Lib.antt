@@ -17,3 +17,4 @@ pub mod Kept
 pub mod NumberLaws
 pub mod Ample
 pub mod Absent
+pub mod PermsLaws

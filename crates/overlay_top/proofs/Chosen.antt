@@ -3,17 +3,16 @@ use Rattle.ovl_io.specs.Outside.{FetchRefused, Rose}
 use Rattle.ovl_io.specs.Forms.{no_faults, never_refused}
 use Rattle.ovl_io.specs.declared.source.Source.{Ghosts as SourceOf}
 use Rattle.ovl_io.specs.declared.shelf.Shelf.{Ghosts as ShelfOf}
-use Rattle.ovl_io.specs.declared.shelf.ShelfError.TheVariants as shelf
 use Rattle.ovl_io.specs.declared.sink.Sink.{Ghosts as SinkOf}
 use Rattle.overlay_top.specs.declared.words.Settings.{Settings}
 use Rattle.overlay_top.specs.declared.status.Status.{Status}
 use Rattle.overlay_top.specs.declared.status.Status.TheVariants as ending
 use Rattle.overlay_top.specs.Outcome.{Asking, OfNothing, OfOutside, RunOutcome, asking_of, chosen_files, chosen_script, outcome_set, run_asking, run_outcome, said, said_outcome}
-use Rattle.overlay_top.specs.Outside.{ShelfRose, SinkRose, SourceRose, WasRefused}
+use Rattle.overlay_top.specs.Outside.{ShelfRose, SinkRose, SourceRose}
 use Rattle.overlay_top.specs.Words.{seed_in, seed_set, settings_of}
 use Rattle.overlay_top.specs.Status.{code_of}
 use Rattle.overlay_top.specs.Running.{AsksAs}
-use Rattle.overlay_top.specs.Ends.{Ends, EndsAs, EndsMade, IsCompleteWith, IsTold, NoFault, ReadCaused, SaysAt, TakesAs, World}
+use Rattle.overlay_top.specs.Ends.{Ends, EndsAs, EndsMade, IsCompleteWith, IsTold, NoFault, SaysAt, TakesAs, World}
 use Rattle.overlay_top.specs.Ends.Ends.{Untouched, Whole, SourceFailed, ShelfFailed, SinkFailed, OutOfMemory}
 use Rattle.overlay_top.specs.Ends.EndsMade.{MadeWhole, MadeSinkFailed, MadeOutOfMemory}
 use Rattle.overlay_top.proofs.Calls.{complete, no_memory, nothing}

@@ -1,4 +1,4 @@
-use Rattle.std.proofs.Common.{◌≡◌, Bool, ℕ, List, ◌++◌, ap, sym, subst, ◌∙◌, refl, Result, Ok, Err}
+use Rattle.std.proofs.Common.{◌≡◌, Bool, ℕ, List, ◌++◌, ap, sym, subst, ◌∙◌, refl, Ok, Err}
 use Rattle.ovl_io.specs.declared.sink.Sink.{Ghosts as SinkOf}
 use Rattle.report_text.specs.declared.answer.Answer.{Answer}
 use Rattle.report_text.specs.declared.answer.Answer.TheVariants.{Done, Loaded, Forked, Saved, Shared, Refused, Full, Memory}
@@ -8,12 +8,11 @@ use Rattle.command_core.specs.Sessions.{InSession}
 use Rattle.command_core.specs.Rows.{Changed, Row, change_by}
 use Rattle.command_core.specs.Giving.{ComesTo, GivesChange}
 use Rattle.command_core.specs.Changes.{load_row}
-use Rattle.command_core.specs.Commands.{Performed, exec_done, exec_turns, row_told, rules, tells_exec}
+use Rattle.command_core.specs.Commands.{Performed, exec_done, exec_turns, rules, tells_exec}
 use Rattle.command_core.specs.LikeLaws.{AreLikePerformed, like_exec_turns, states_chain}
-use Rattle.overlay_top.specs.declared.running.Halt.{Halt}
 use Rattle.overlay_top.specs.declared.running.Halt.TheVariants as halt
 use Rattle.overlay_top.specs.Sending.{IsCut, IsSent}
-use Rattle.overlay_top.specs.Running.{EndsCommand, TakesOn, TellsAnswer}
+use Rattle.overlay_top.specs.Running.{EndsCommand, TakesOn}
 
 -- What a change gave, and what was sent of it.
 

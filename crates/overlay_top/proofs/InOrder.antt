@@ -9,7 +9,6 @@ use Rattle.command_core.specs.Commands.{FileAsked, AsksNothing, HasFile, IsMissi
 use Rattle.overlay_top.specs.declared.words.Settings.{Settings}
 use Rattle.overlay_top.specs.declared.status.Status.{Status}
 use Rattle.overlay_top.specs.declared.status.Status.TheVariants.{Done}
-use Rattle.overlay_top.specs.Status.{code_of}
 use Rattle.overlay_top.specs.Outcome.{modes_of, Asking, OfNothing, OfOutside, Passage, RunOutcome, SaysCommands, SaysOutside, SaysTooMuch, ScriptSays, chosen_files, chosen_script, outcome_set, run_from, said, said_outcome, with_asked}
 use Rattle.overlay_top.specs.InOrder.{have_files, says_in_order, set_in_order}
 use Rattle.overlay_top.specs.Ends.{Ends, EndsAs, EndsMade, EndsWith, MadeOutOfMemory, MadeSinkFailed, MadeWhole, OutOfMemory, ShelfFailed, SinkFailed, SourceFailed, Untouched, Whole, World}

@@ -1,17 +1,20 @@
 use Rattle.std.specs.Prelude.{◌≡◌, ℕ, Bool, true, false, List, Option, Some, None, IfSome, refl}
 use Rattle.std.proofs.Common.{sym, ap, subst, ◌∙◌}
-use Rattle.std.specs.Option.{is_some, option_map_or}
+use Rattle.std.specs.Option.{is_some, option_map, option_map_or}
 use Rattle.std.specs.List.{All}
 use Rattle.std.specs.FinMap.{get}
+use Rattle.number_maps.specs.Keys.{by_key}
+use Rattle.ovl_io.specs.Memory.{Memory, Page}
 use Rattle.translation_cache.specs.Absent.{HasNone}
 use Rattle.machine_core.specs.Process.{runs}
 use Rattle.machine_core.specs.declared.process.Process as declared
-use Rattle.machine_core.specs.Machine.{AreLike, Machine, StaysBut, Wholes, has_space, is_running, lists_of, wholes}
+use Rattle.machine_core.specs.Machine.{AreLike, Machine, StaysBut, Wholes, has_space, is_running, lists_of, spaces_of, wholes}
 use Rattle.machine_core.specs.Laws.{runs_shown}
+use Rattle.machine_core.specs.PermsLaws.{LeavesPerms, memory_same, perms_after}
 use Rattle.round_robin.specs.MemberLaws.{next_has}
 use Rattle.round_robin.specs.Turns.{Turns, next_number}
-use Rattle.self_speculation.specs.Requests.{KeepsPairs}
-use Rattle.process_runs.specs.Places.{KeepsFree, NoneGoes, OwnSpaces}
+use Rattle.self_speculation.specs.Requests.{KeepsPairs, KeepsPerms}
+use Rattle.process_runs.specs.Places.{KeepsAllPerms, KeepsFree, NoneGoes, OwnSpaces}
 
 -- Laws: which spaces and processes are there.
 
@@ -44,6 +47,18 @@ free_stays p old new others there unlisted = record {
   unseen = λ q none. unlisted q (not_free old p q there none);
 }
 
+-- pages and their permissions, the same way
+pub perms_start : (machine : Machine) → KeepsAllPerms machine machine
+perms_start machine q at = refl
+
+pub perms_then : (a b c : Machine) → KeepsAllPerms a b → KeepsAllPerms b c → KeepsAllPerms a c
+perms_then a b c first second q at = second q at ∙ first q at
+
+pub perms_stay : (p : ℕ) (old new : Machine) → StaysBut p old new → KeepsPerms p old new → KeepsAllPerms old new
+perms_stay p old new others here q = by_key q p
+    (λ same. subst (λ n. KeepsPerms n old new) (sym same) here)
+    (λ other at. ap (λ (m : Memory). option_map (λ (page : Page). page.perms) (get m at)) (memory_same (spaces_of new) (spaces_of old) q (others.spaces q other)))
+
 -- the one whose turn is next runs
 pub next_runs : (processes : Wholes) (next : Option ℕ) (turns : Turns) (running : List ℕ) → All (λ p. is_running processes p ≡ true) running
     → next ≡ next_number turns running → IfSome next (λ p. is_running processes p ≡ true)
@@ -64,6 +79,11 @@ pub free_turns : (p : ℕ) (old new : Machine) (left : Wholes) → StaysBut p ol
     → ((q : ℕ) → (q ≡ p → ⊥) → HasNone q (lists_of old) → HasNone q left.translations) → KeepsFree old new
 free_turns p old new left others running like unlisted =
     free_stays p old new others (process_there old p running) (λ q other none. subst (HasNone q) (sym like.translations) (unlisted q other none))
+
+-- and leave which pages there are, and their permissions
+pub perms_turns : (p : ℕ) (old new : Machine) (left : Wholes) → StaysBut p old new → is_running (wholes old) p ≡ true → LeavesPerms p (wholes old) left
+    → AreLike (wholes new) left → KeepsAllPerms old new
+perms_turns p old new left others running leaves like = perms_stay p old new others (perms_after old new p left running leaves like)
 
 -- no process goes where the same ones are there
 pub stay_kept : (old new : Machine) → KeepsPairs old new → NoneGoes old new

@@ -4,6 +4,7 @@ use Rattle.std.specs.FinMap.{empty, get}
 use Rattle.translation_cache.specs.Absent.{HasNone}
 use Rattle.space_maps.specs.Spaces.{space_in}
 use Rattle.machine_core.specs.Machine.{Machine, has_saved, has_space, is_marked, lists_of, spaces_of}
+use Rattle.self_speculation.specs.Requests.{KeepsPerms}
 
 -- Which spaces and processes are there.
 
@@ -23,6 +24,10 @@ HavePairs machine = (q : ℕ) → is_marked machine q ≡ has_saved machine q
 pub record KeepsFree (old new : Machine) : Type 0 where
   pub spaces : (q : ℕ) → get old.processes q ≡ None → space_in (spaces_of new) q ≡ space_in (spaces_of old) q
   pub unseen : (q : ℕ) → get old.processes q ≡ None → HasNone q (lists_of old) → HasNone q (lists_of new)
+
+-- each space has the pages that it had, with the same permissions
+abbrev pub KeepsAllPerms : Machine → Machine → Type 0
+KeepsAllPerms old new = (q : ℕ) → KeepsPerms q old new
 
 -- no process goes
 abbrev pub NoneGoes : Machine → Machine → Type 0

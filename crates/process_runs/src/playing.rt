@@ -3,7 +3,7 @@
 ghost use Rattle.std.specs.Prelude.{◌≡◌};
 ghost use Rattle.machine_core.specs.Machine.{AreLike, wholes};
 ghost use Rattle.self_speculation.specs.Requests.{KeepsPairs};
-ghost use Rattle.process_runs.specs.Places.{HavePairs, KeepsFree, NoPageAwaits, OwnSpaces};
+ghost use Rattle.process_runs.specs.Places.{HavePairs, KeepsAllPerms, KeepsFree, NoPageAwaits, OwnSpaces};
 ghost use Rattle.process_runs.specs.Played.{AreOwnCalledTurns, after_number, run_over};
 
 use crate::taking::take_event;
@@ -17,6 +17,7 @@ fn turn(machine: &mut Machine, p: u16)
     ensures after { AreLike (wholes machine.new) (after_number p (wholes machine.old)) }
     ensures kept { KeepsPairs machine.old machine.new }
     ensures free { KeepsFree machine.old machine.new }
+    ensures perms { KeepsAllPerms machine.old machine.new }
 {
     if machine.is_running(p) {
         let _ = take_event(machine, p, true);
@@ -33,6 +34,7 @@ pub fn play(machine: &mut Machine, turns: &[u16])
     ensures own { AreOwnCalledTurns turns.now (wholes machine.old) (wholes machine.new) }
     ensures kept { KeepsPairs machine.old machine.new }
     ensures free { KeepsFree machine.old machine.new }
+    ensures perms { KeepsAllPerms machine.old machine.new }
 {
     let mut i = 0;
     'playing: while i < turns.len() {

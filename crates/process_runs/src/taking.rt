@@ -8,7 +8,7 @@ ghost use Rattle.machine_core.specs.Machine.{AreLike, KeepsPlaces, StaysBut, has
 ghost use Rattle.machine_core.specs.Executions.{after_executions, came_to_last, steps_to};
 ghost use Rattle.self_speculation.specs.Requests.{KeepsPairs};
 ghost use Rattle.self_speculation.specs.Taken.{AnswersRequest, after_taken, taken_turn};
-ghost use Rattle.process_runs.specs.Places.{HavePairs, KeepsFree, NoPageAwaits, OwnSpaces};
+ghost use Rattle.process_runs.specs.Places.{HavePairs, KeepsAllPerms, KeepsFree, NoPageAwaits, OwnSpaces};
 ghost use Rattle.breakpoints.specs.Breakpoints.{addresses_of};
 ghost use Rattle.process_runs.specs.Turns.{EndsRun, EndsStretch, FinishesTurn, IsTurnLine, Speaks, TakesTurn, break_among, break_of, ending, ending_by, found_before, last_break, begun_by, lines_left, next_of, rest_of, run_found};
 
@@ -55,6 +55,7 @@ fn answer_request(machine: &mut Machine, p: u16, calls: bool) -> Turn
     ensures port { HasPort result }
     ensures kept { KeepsPairs machine.old machine.new }
     ensures free { KeepsFree machine.old machine.new }
+    ensures perms { KeepsAllPerms machine.old machine.new }
 {
     answer(machine, p, calls)
 }
@@ -70,6 +71,7 @@ fn finish_turn(machine: &mut Machine, p: u16, outcome: Outcome, calls: bool) -> 
     ensures port { HasPort result }
     ensures kept { KeepsPairs machine.old machine.new }
     ensures free { KeepsFree machine.old machine.new }
+    ensures perms { KeepsAllPerms machine.old machine.new }
 {
     match outcome {
         Outcome::Stepped => Turn::Stepped,
@@ -100,6 +102,7 @@ fn end_stretch(
     ensures within { running.new.run.taken ≤ running.new.run.turns }
     ensures kept { KeepsPairs machine.old machine.new }
     ensures free { KeepsFree machine.old machine.new }
+    ensures perms { KeepsAllPerms machine.old machine.new }
 {
     let turn = finish_turn(machine, p, outcome, running.calls());
     running.count(p, &turn);
@@ -136,6 +139,7 @@ fn take_turns(
     ensures within { running.new.run.taken ≤ running.new.run.turns }
     ensures kept { KeepsPairs machine.old machine.new }
     ensures free { KeepsFree machine.old machine.new }
+    ensures perms { KeepsAllPerms machine.old machine.new }
 {
     let (steps, outcome) = execute_up_to(machine, breakpoints, p, running.stretch(p));
     running.took_turns(p, steps);
@@ -231,11 +235,7 @@ fn ending_unbroken(machine: &Machine, running: &Running) -> Option<Stop>
 }
 
 /// The ending that holds, if one does.
-fn ending(
-    machine: &Machine,
-    breakpoints: &Breakpoints,
-    running: &Running,
-) -> Option<Stop>
+fn ending(machine: &Machine, breakpoints: &Breakpoints, running: &Running) -> Option<Stop>
     ensures { result ≡ ending breakpoints.now (wholes machine.now) running.now.run }
 {
     match last_break(machine, breakpoints, running) {
@@ -254,6 +254,7 @@ pub(crate) fn take_event(machine: &mut Machine, p: u16, calls: bool) -> Turn
     ensures after { AreLike (wholes machine.new) (after_taken calls (wholes machine.old) p) }
     ensures kept { KeepsPairs machine.old machine.new }
     ensures free { KeepsFree machine.old machine.new }
+    ensures perms { KeepsAllPerms machine.old machine.new }
 {
     event(machine, p, calls)
 }
@@ -304,6 +305,7 @@ pub fn next_turn(
     ensures still { result ≡ None → machine.new ≡ machine.old }
     ensures kept { KeepsPairs machine.old machine.new }
     ensures free { KeepsFree machine.old machine.new }
+    ensures perms { KeepsAllPerms machine.old machine.new }
 {
     match running.stop() {
         Some(_) => return None,
@@ -349,6 +351,7 @@ fn quiet_turns(
     ensures within { running.new.run.taken ≤ running.new.run.turns }
     ensures kept { KeepsPairs machine.old machine.new }
     ensures free { KeepsFree machine.old machine.new }
+    ensures perms { KeepsAllPerms machine.old machine.new }
 {
     'quiet: while running.has_left() {
         match last_break(machine, breakpoints, running) {
@@ -390,6 +393,7 @@ pub fn turns_to_line(
     ensures within { running.new.run.taken ≤ running.new.run.turns }
     ensures kept { KeepsPairs machine.old machine.new }
     ensures free { KeepsFree machine.old machine.new }
+    ensures perms { KeepsAllPerms machine.old machine.new }
 {
     if running.has_ended() {
         return false;

@@ -1,4 +1,4 @@
-use Rattle.std.proofs.Common.{◌≡◌, ℕ, ◌+◌, ◌/◌, Bool, true, false, cond, sym, ap, subst, ◌∙◌, refl, Option, Some, None}
+use Rattle.std.proofs.Common.{◌≡◌, ℕ, ◌+◌, ◌/◌, Bool, true, false, cond, sym, ap, subst, ◌∙◌, refl, Option, Some, None, inl, inr}
 use Rattle.std.specs.Prelude.{IsSome}
 use Rattle.std.specs.Option.{is_some, option_map, option_map_or, unwrap_or}
 use Rattle.std.specs.FinMap.{get, insert}
@@ -30,7 +30,7 @@ use Rattle.self_speculation.specs.declared.TheConstants.{ECALL}
 use Rattle.self_speculation.specs.Called.{CallRow, after_by, after_called, call_by, call_of, called_in, called_turn, guest_called, row_after, row_does, row_is_full, row_needs, row_of, row_translations, row_turn, turn_by}
 use Rattle.self_speculation.specs.Taken.{AnswersRequest}
 use Rattle.self_speculation.specs.CalledLaws.{like_row_after, like_row_turn}
-use Rattle.self_speculation.specs.Requests.{DoesCall, IsQuietTurn, KeepsUnseen, WereAtRequest, guest_at_request, whole_at}
+use Rattle.self_speculation.specs.Requests.{AnswersCall, DoesCall, FindsCall, IsQuietTurn, KeepsUnseen, WereAtRequest, guest_at_request, whole_at}
 use Rattle.self_speculation.specs.AskingLaws.{asks, at_request, executed_is}
 
 -- A request that is answered, of each state in which it was made.
@@ -233,3 +233,20 @@ quiet_row row guest = by_full (row_is_full row guest)
 pub quiet_call : (p : ℕ) (call : ProcessCall) (process : declared.Process) (at : Registers) (old : Machine) (t : Turn) (new : Machine) → DoesCall p call process at old t new → IsQuietTurn t
 quiet_call p call process at old t new does =
     let guest = guest_at_request old p process at in subst IsQuietTurn (sym does.turn_is) (quiet_row (row_of p call guest.process) guest)
+
+-- A request of its own that was found, and done; and one that wasn't found.
+pub finds_call : (calls : Bool) (p : ℕ) (machine : Machine) (at : Registers) (call : ProcessCall) (came : Turn) (new : Machine) → FindsCall p calls machine (Some (at, call))
+    → AnswersCall p at call machine came new → AnswersRequest calls p (wholes machine) came (wholes new)
+finds_call calls p machine at call came new (may, (process, there, were, is)) (again, there_again, does) =
+    let same = ap (λ (o : Option declared.Process). unwrap_or o again) (sym there_again ∙ there) in
+    let done = subst (λ (x : declared.Process). DoesCall p call x at machine came new) same does in
+    subst (λ b. AnswersRequest b p (wholes machine) came (wholes new)) (sym may)
+    (λ old running asked like. answers_call p machine process there old running asked like at were call came new is done)
+
+pub finds_none : (calls : Bool) (p : ℕ) (machine : Machine) (t : Turn) (new : Machine) → FindsCall p calls machine None → t ≡ turn_asked (wholes machine) p
+    → AreLike (wholes new) (after_asked (wholes machine) p) → AnswersRequest calls p (wholes machine) t (wholes new)
+finds_none calls p machine t new (inl not) turn_is after_is =
+    subst (λ b. AnswersRequest b p (wholes machine) t (wholes new)) (sym not) (answers_asked p machine t new turn_is after_is)
+finds_none calls p machine t new (inr (may, (process, at, there, were, is))) turn_is after_is =
+    subst (λ b. AnswersRequest b p (wholes machine) t (wholes new)) (sym may)
+    (λ old running asked like. answers_plain p machine process there old running asked like at were t new is turn_is after_is)

@@ -144,8 +144,12 @@ module _ (p : ℕ) (process : declared.Process) (at : Registers) (old : Machine)
   started memory (unmarked, within, has) lists =
       let s = has.settled in
       let is : whole_in (state_of memory) p started_process ≡ begun before =
-      λ i. record { registers = gone_on at 0; state = process.state; memory = s.memory i;
-      kept = kept_at (state_of memory) started_process.saved true (memory_of (spaces_of old) p) s.marked (has.base ∙ s.memory) i } in
+      λ i. record {
+        registers = gone_on at 0;
+        state = process.state;
+        memory = s.memory i;
+        kept = kept_at (state_of memory) started_process.saved true (memory_of (spaces_of old) p) s.marked (has.base ∙ s.memory) i;
+      } in
       by_mark Speculate Stepped (with_process_at (with_memory old memory) p started_process) false unmarked
       (does memory started_process s.others s.spaces s.awaiting s.frames (λ agree. s.marked) (is_done true (event.Settle p) (begun before))
       (not_over (unit_limit (spaces_of old).frames) (units (ledger_after (event.Settle p) (books (spaces_of old)))) within) is has.ledger lists)

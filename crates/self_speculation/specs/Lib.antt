@@ -13,3 +13,5 @@ pub mod AskingLaws
 pub mod TakenLaws
 -- Laws of a process that is put.
 pub mod RequestLaws
+-- Laws: turns leave which pages a process has, and their permissions.
+pub mod PermsLaws

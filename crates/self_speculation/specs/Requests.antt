@@ -1,19 +1,23 @@
-use Rattle.std.specs.Prelude.{◌≡◌, ℕ, ◌/◌, ◌⊎◌, true, IsSome, Option, Some, None}
+use Rattle.std.specs.Prelude.{◌≡◌, ℕ, ◌/◌, ◌⊎◌, Bool, true, false, IsSome, Option, Some, None}
 use Rattle.std.specs.Option.{is_some}
 use Rattle.std.specs.FinMap.{get}
 use Rattle.sizes.specs.declared.TheConstants.{PAGE_BYTES}
 use Rattle.translation_cache.specs.Absent.{HasNone}
 use Rattle.space_maps.specs.Spaces.{page_in, space_in}
+use Rattle.overlay_pages.specs.State.{memory_of}
 use Rattle.ovl_io.specs.declared.turn.Turn.{Turn}
 use Rattle.ovl_io.specs.declared.turn.Turn.TheVariants as turn
 use Rattle.rv_execute.specs.Registers.{Registers, next}
 use Rattle.process_calls.specs.declared.calls.ProcessCall.{ProcessCall}
 use Rattle.process_calls.specs.Calls.{call_at}
 use Rattle.self_speculation.specs.declared.TheConstants.{ECALL}
+use Rattle.self_speculation.specs.declared.requests.CallAnswer.{CallAnswer}
+use Rattle.self_speculation.specs.declared.requests.CallAnswer.TheVariants.{GoesOn, Full}
 use Rattle.machine_core.specs.Process.{Process}
 use Rattle.machine_core.specs.declared.process.Process as declared
 use Rattle.machine_core.specs.Machine.{AreLike, Machine, StaysBut, has_saved, has_space, is_marked, lists_of, spaces_of, unit_limit, whole_in, wholes}
 use Rattle.machine_core.specs.Turns.{Guest, guest_of, turn_asked, with_guest}
+use Rattle.machine_core.specs.PermsLaws.{HaveSamePerms}
 use Rattle.self_speculation.specs.Called.{CallRow, row_after, row_is_full, row_needs, row_of, row_turn}
 
 -- What a machine does at a request.
@@ -29,6 +33,10 @@ pub record KeepsPairs (old new : Machine) : Type 0 where
 -- what of another space was never translated still wasn't
 abbrev pub KeepsUnseen : ℕ → Machine → Machine → Type 0
 KeepsUnseen p old new = (q : ℕ) → (q ≡ p → ⊥) → HasNone q (lists_of old) → HasNone q (lists_of new)
+
+-- a space has the pages that it had, with the same permissions
+abbrev pub KeepsPerms : ℕ → Machine → Machine → Type 0
+KeepsPerms p old new = HaveSamePerms (memory_of (spaces_of old) p) (memory_of (spaces_of new) p)
 
 -- a turn that writes nothing and ends no process
 abbrev pub IsQuietTurn : Turn → Type 0
@@ -72,8 +80,19 @@ pub record IsFullRow (needed limit : ℕ) (row : CallRow) (guest : Guest) : Type
   pub limit_is : limit ≡ unit_limit guest.frames
   pub full : row_is_full row guest ≡ true
 
--- what is answered to an ECALL: a request of the process's own speculation is done; nothing is done where it is none
-abbrev pub AnswersCall : ℕ → declared.Process → Machine → Option Turn → Machine → Type 0
-AnswersCall p process old (Some turn) new =
-    (at : Registers) × (call : ProcessCall) × WereAtRequest old p process.regs at × (call_at at ECALL ≡ Some call) × DoesCall p call process at old turn new
-AnswersCall p process old None new = (new ≡ old) × ((at : Registers) × WereAtRequest old p process.regs at × (call_at at ECALL ≡ None))
+-- what came of the turn of a request
+abbrev pub turn_of_answer : CallAnswer → Turn
+turn_of_answer GoesOn = turn.Stepped
+turn_of_answer (Full needed limit) = turn.Full needed limit
+
+-- The request of a process's own speculation that it asked for, where it may: none where it may not, and where it asked for something else.
+abbrev pub FindsCall : ℕ → Bool → Machine → Option (Registers × ProcessCall) → Type 0
+FindsCall p calls machine (Some (at, call)) =
+    (calls ≡ true) × ((process : declared.Process) × (get machine.processes p ≡ Some process) × WereAtRequest machine p process.regs at × (call_at at ECALL ≡ Some call))
+FindsCall p calls machine None =
+    (calls ≡ false)
+    ⊎ ((calls ≡ true) × ((process : declared.Process) × (at : Registers) × (get machine.processes p ≡ Some process) × WereAtRequest machine p process.regs at × (call_at at ECALL ≡ None)))
+
+-- a request of a process that is there is done
+abbrev pub AnswersCall : ℕ → Registers → ProcessCall → Machine → Turn → Machine → Type 0
+AnswersCall p at call old came new = (process : declared.Process) × (get old.processes p ≡ Some process) × DoesCall p call process at old came new

@@ -5,9 +5,9 @@ ghost use Rattle.std.specs.FinMap.{empty};
 ghost use Rattle.space_maps.specs.Spaces.{space_in};
 ghost use Rattle.machine_core.specs.Machine.{AnswersAs, LeadsTo, StaysBut, has_saved, has_space, is_marked, is_running, spaces_of, wholes};
 ghost use Rattle.self_speculation.specs.Taken.{AnswersRequest, after_taken, taken_turn};
-ghost use Rattle.self_speculation.specs.Requests.{IsAnswer, KeepsPairs, KeepsUnseen};
+ghost use Rattle.self_speculation.specs.Requests.{IsAnswer, KeepsPairs, KeepsPerms, KeepsUnseen};
 
-use crate::requests::answer_call;
+use crate::requests::{answer_call, find_call};
 use machine_core::Machine;
 use ovl_io::Turn;
 use rv_execute::Outcome;
@@ -23,20 +23,12 @@ pub fn answer(machine: &mut Machine, p: u16, calls: bool) -> Turn
     ensures others { StaysBut p machine.old machine.new }
     ensures pairs { KeepsPairs machine.old machine.new }
     ensures unseen { KeepsUnseen p machine.old machine.new }
+    ensures perms { KeepsPerms p machine.old machine.new }
     ensures came { IsAnswer p machine.old result }
 {
-    if !calls {
-        return machine.answer(p);
-    }
-    match machine.process(p) {
-        Some(process) => {
-            let process = *process;
-            match answer_call(machine, p, process) {
-                Some(turn) => turn,
-                None => machine.answer(p),
-            }
-        }
-        None => unreachable!(),
+    match find_call(machine, p, calls) {
+        Some(asked) => answer_call(machine, p, asked.0, asked.1).turn(),
+        None => machine.answer(p),
     }
 }
 

@@ -18,14 +18,14 @@ pub returns-then-not-has_page-clause-done : goal.returns-then-not-has_page-claus
 returns-then-not-has_page-clause-done c =
     let old = c.args.machine.now in
     lacks_page old old.memory c.args.p c.args.q (is_pair old c.args.p c.args.q (sym c.in-None.ensures.first)) c.args.address c.args.other refl
-    (page_told old c.args.p c.memory.result.now c.has_page.result false c.memory.ensures (c.args.address / PAGE_BYTES) c.has_page.ensures c.if-not-has_page.true)
+    (page_told old c.args.p c.memory.result.now c.has_page.result false c.memory.ensures (c.args.address / PAGE_BYTES) c.has_page.ensures.there c.if-not-has_page.true)
 
 pub returns-then-not-has_page-2-clause-done : goal.returns-then-not-has_page-2-clause-done
 returns-then-not-has_page-2-clause-done c =
     let old = c.args.machine.now in
     lacks_other old old.memory c.args.p c.args.q (is_pair old c.args.p c.args.q (sym c.in-None.ensures.first)) c.args.address c.args.other refl
-    (page_told old c.args.p c.memory.result.now c.has_page.result true c.memory.ensures (c.args.address / PAGE_BYTES) c.has_page.ensures c.if-not-has_page.false)
-    (page_told old c.args.q c.memory-2.result.now c.has_page-2.result false c.memory-2.ensures (c.args.other / PAGE_BYTES) c.has_page-2.ensures c.if-not-has_page-2.true)
+    (page_told old c.args.p c.memory.result.now c.has_page.result true c.memory.ensures (c.args.address / PAGE_BYTES) c.has_page.ensures.there c.if-not-has_page.false)
+    (page_told old c.args.q c.memory-2.result.now c.has_page-2.result false c.memory-2.ensures (c.args.other / PAGE_BYTES) c.has_page-2.ensures.there c.if-not-has_page-2.true)
 
 pub deduplicate-requires-clause-settled : goal.deduplicate-requires-clause-settled
 deduplicate-requires-clause-settled c =
@@ -41,8 +41,8 @@ pub returns-in-Ok-clause-done : goal.returns-in-Ok-clause-done
 returns-in-Ok-clause-done c =
     let old = c.args.machine.now in
     was_put old c.deduplicate.new.mem c.args.p c.args.q (is_pair old c.args.p c.args.q (sym c.in-None.ensures.first)) c.args.address c.args.other
-    (page_told old c.args.p c.memory.result.now c.has_page.result true c.memory.ensures (c.args.address / PAGE_BYTES) c.has_page.ensures c.if-not-has_page.false)
-    (page_told old c.args.q c.memory-2.result.now c.has_page-2.result true c.memory-2.ensures (c.args.other / PAGE_BYTES) c.has_page-2.ensures c.if-not-has_page-2.false)
+    (page_told old c.args.p c.memory.result.now c.has_page.result true c.memory.ensures (c.args.address / PAGE_BYTES) c.has_page.ensures.there c.if-not-has_page.false)
+    (page_told old c.args.q c.memory-2.result.now c.has_page-2.result true c.memory-2.ensures (c.args.other / PAGE_BYTES) c.has_page-2.ensures.there c.if-not-has_page-2.false)
     (subst (λ (m : TranslatedView). Deduplicates m c.deduplicate.new.mem c.args.p (c.args.address / PAGE_BYTES) c.args.q (c.args.other / PAGE_BYTES) (Ok tt))
     c.memory_mut.ensures.value c.in-Ok.ensures.deduplicates)
     (c.in-Ok.ensures.translations ∙ ap (λ (m : TranslatedView). flushed c.args.p (translations_of m)) c.memory_mut.ensures.value)
@@ -53,8 +53,8 @@ returns-in-Err-clause-done c =
     subst (λ a. MachineComesTo (dedup_row c.args.p c.args.address c.args.q c.args.other) c.args.machine.now a (with_memory c.args.machine.now c.deduplicate.new.mem))
     (sym c.not_shared.ensures.answer)
     (not_put old c.deduplicate.new.mem c.args.p c.args.q (is_pair old c.args.p c.args.q (sym c.in-None.ensures.first)) c.args.address c.args.other
-    (page_told old c.args.p c.memory.result.now c.has_page.result true c.memory.ensures (c.args.address / PAGE_BYTES) c.has_page.ensures c.if-not-has_page.false)
-    (page_told old c.args.q c.memory-2.result.now c.has_page-2.result true c.memory-2.ensures (c.args.other / PAGE_BYTES) c.has_page-2.ensures c.if-not-has_page-2.false)
+    (page_told old c.args.p c.memory.result.now c.has_page.result true c.memory.ensures (c.args.address / PAGE_BYTES) c.has_page.ensures.there c.if-not-has_page.false)
+    (page_told old c.args.q c.memory-2.result.now c.has_page-2.result true c.memory-2.ensures (c.args.other / PAGE_BYTES) c.has_page-2.ensures.there c.if-not-has_page-2.false)
     c.in-Err.error
     (subst (λ (m : TranslatedView). Deduplicates m c.deduplicate.new.mem c.args.p (c.args.address / PAGE_BYTES) c.args.q (c.args.other / PAGE_BYTES) (Err c.in-Err.error))
     c.memory_mut.ensures.value c.in-Err.ensures.deduplicates))

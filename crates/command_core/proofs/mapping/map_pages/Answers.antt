@@ -19,3 +19,4 @@ returns-in-Ok-clause-done c =
     (c.in-Ok.ensures.mapped
     ∙ ap (λ (m : TranslatedView). with_zeros (state_of m) c.args.p (c.args.address / PAGE_BYTES) c.args.n (record { perms = c.args.perms; frame = (state_of m).zero_frame })) c.memory_mut.ensures.value)
     (c.in-Ok.ensures.translations ∙ ap (λ (m : TranslatedView). flushed c.args.p (translations_of m)) c.memory_mut.ensures.value)
+    c.requires.fine

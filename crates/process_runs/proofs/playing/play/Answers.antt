@@ -5,7 +5,7 @@ use Rattle.machine_core.specs.Laws.{like_chain, like_itself}
 use Rattle.process_runs.specs.Played.{run_over}
 use Rattle.process_runs.specs.PlayedLaws.{each_own, like_run, run_all, run_next}
 use Rattle.self_speculation.specs.RequestLaws.{pairs_start, pairs_then}
-use Rattle.process_runs.specs.PlaceLaws.{free_start, free_then, own_kept}
+use Rattle.process_runs.specs.PlaceLaws.{free_start, free_then, own_kept, perms_start, perms_then}
 use Rattle.process_runs.proofs.playing.play.Goals as goal
 
 pub playing-init : goal.playing-init
@@ -13,6 +13,7 @@ playing-init c = record {
   run = like_itself (run_over c.args.turns.now (wholes c.args.machine.now));
   kept = pairs_start c.args.machine.now;
   free = free_start c.args.machine.now;
+  perms = perms_start c.args.machine.now;
   spaces = c.requires.spaces;
   awaits = c.requires.awaits;
   pairs = c.requires.pairs;
@@ -27,6 +28,7 @@ playing-preserved c =
           (subst (λ s. AreLike s (run_over c.args.turns.now (wholes c.args.machine.now))) (run_next c.args.turns.now c.playing.i (wholes c.playing.machine) c.playing-test.true) so_far.run);
       kept = pairs_then c.args.machine.now c.playing.machine done.new.machine so_far.kept done.ensures.kept;
       free = free_then c.args.machine.now c.playing.machine done.new.machine so_far.kept so_far.free done.ensures.free;
+      perms = perms_then c.args.machine.now c.playing.machine done.new.machine so_far.perms done.ensures.perms;
       spaces = own_kept c.playing.machine done.new.machine so_far.spaces done.ensures.kept;
       awaits = λ q. done.ensures.kept.awaiting q ∙ so_far.awaits q;
       pairs = λ q. done.ensures.kept.kept q (so_far.pairs q);
@@ -46,3 +48,6 @@ returns-clause-kept c = c.playing.invariant.kept
 
 pub returns-clause-free : goal.returns-clause-free
 returns-clause-free c = c.playing.invariant.free
+
+pub returns-clause-perms : goal.returns-clause-perms
+returns-clause-perms c = c.playing.invariant.perms

@@ -1,5 +1,5 @@
 use Rattle.machine_core.specs.Machine.{wholes}
-use Rattle.process_runs.specs.PlaceLaws.{free_stays, process_there}
+use Rattle.process_runs.specs.PlaceLaws.{free_stays, perms_stay, process_there}
 use Rattle.process_runs.proofs.Ports.{answer_port}
 use Rattle.process_runs.proofs.taking.answer_request.Goals as goal
 
@@ -10,3 +10,6 @@ pub returns-clause-free : goal.returns-clause-free
 returns-clause-free c =
     let old = c.args.machine.now in
     free_stays c.args.p old c.answer.new.machine c.answer.ensures.others (process_there old c.args.p c.requires.runs) c.answer.ensures.unseen
+
+pub returns-clause-perms : goal.returns-clause-perms
+returns-clause-perms c = perms_stay c.args.p c.args.machine.now c.answer.new.machine c.answer.ensures.others c.answer.ensures.perms

@@ -2,7 +2,7 @@ use Rattle.std.proofs.Common.{[], ◌∙◌, refl, sym, subst, Some, None, inl, 
 use Rattle.process_runs.specs.Turns.{EndsRun, left_of}
 use Rattle.machine_core.specs.Machine.{wholes}
 use Rattle.self_speculation.specs.RequestLaws.{pairs_start, pairs_then}
-use Rattle.process_runs.specs.PlaceLaws.{free_start, free_then, own_kept, space_there}
+use Rattle.process_runs.specs.PlaceLaws.{free_start, free_then, own_kept, perms_start, perms_then, space_there}
 use Rattle.process_runs.proofs.Rans.{WhyEnded, next_is, none_left, run_ended, said_none, said_then}
 use Rattle.process_runs.proofs.taking.quiet_turns.Goals as goal
 use Rattle.process_runs.proofs.taking.quiet_turns.Goals.{else-quiet-test, then-quiet-test+in-None+in-None-next, then-quiet-test+in-Some}
@@ -28,6 +28,7 @@ quiet-init c = record {
   asked = refl;
   kept = pairs_start c.args.machine.now;
   free = free_start c.args.machine.now;
+  perms = perms_start c.args.machine.now;
   spaces = c.requires.spaces;
   awaits = c.requires.awaits;
   pairs = c.requires.pairs;
@@ -45,6 +46,7 @@ quiet-preserved c =
       asked = done.ensures.asked ∙ c.quiet.invariant.asked;
       kept = pairs_then c.args.machine.now c.quiet.machine done.new.machine c.quiet.invariant.kept done.ensures.kept;
       free = free_then c.args.machine.now c.quiet.machine done.new.machine c.quiet.invariant.kept c.quiet.invariant.free done.ensures.free;
+      perms = perms_then c.args.machine.now c.quiet.machine done.new.machine c.quiet.invariant.perms done.ensures.perms;
       spaces = own_kept c.quiet.machine done.new.machine c.quiet.invariant.spaces done.ensures.kept;
       awaits = λ q. done.ensures.kept.awaiting q ∙ c.quiet.invariant.awaits q;
       pairs = λ q. done.ensures.kept.kept q (c.quiet.invariant.pairs q);
@@ -78,3 +80,10 @@ returns-then-take_turns-clause-free c =
 
 pub returns-clause-free : goal.returns-clause-free
 returns-clause-free c = c.quiet.invariant.free
+
+pub returns-then-take_turns-clause-perms : goal.returns-then-take_turns-clause-perms
+returns-then-take_turns-clause-perms c =
+    perms_then c.args.machine.now c.quiet.machine c.take_turns.new.machine c.quiet.invariant.perms c.take_turns.ensures.perms
+
+pub returns-clause-perms : goal.returns-clause-perms
+returns-clause-perms c = c.quiet.invariant.perms

@@ -1,7 +1,7 @@
 use Rattle.std.proofs.Common.{◌≡◌, ◌≤◌, [], None}
 use Rattle.machine_core.specs.Machine.{wholes}
 use Rattle.self_speculation.specs.Requests.{KeepsPairs}
-use Rattle.process_runs.specs.Places.{HavePairs, KeepsFree, NoPageAwaits, OwnSpaces}
+use Rattle.process_runs.specs.Places.{HavePairs, KeepsAllPerms, KeepsFree, NoPageAwaits, OwnSpaces}
 use Rattle.process_runs.specs.Turns.{Speaks, lines_left}
 use Rattle.process_runs.proofs.taking.quiet_turns.Given as goal
 
@@ -14,6 +14,7 @@ invariant-quiet l = record {
   asked : l.running.run.turns ≡ l.fn.running.run.turns;
   kept : KeepsPairs l.fn.machine l.machine;
   free : KeepsFree l.fn.machine l.machine;
+  perms : KeepsAllPerms l.fn.machine l.machine;
   spaces : OwnSpaces l.machine;
   awaits : NoPageAwaits l.machine;
   pairs : HavePairs l.machine;

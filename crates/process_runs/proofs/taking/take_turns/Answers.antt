@@ -6,9 +6,10 @@ use Rattle.process_runs.proofs.Rans.{fewer_counted, fewer_left, none_stopped, sp
 use Rattle.breakpoints.specs.Breakpoints.{Breaks, addresses_of}
 use Rattle.machine_core.specs.Absent.{none_after_executions}
 use Rattle.machine_core.specs.Executions.{after_executions}
-use Rattle.process_runs.specs.Places.{KeepsFree}
+use Rattle.machine_core.specs.PermsLaws.{executions_leave}
+use Rattle.process_runs.specs.Places.{KeepsAllPerms, KeepsFree}
 use Rattle.self_speculation.specs.RequestLaws.{pairs_then, places_pairs}
-use Rattle.process_runs.specs.PlaceLaws.{free_then, free_turns}
+use Rattle.process_runs.specs.PlaceLaws.{free_then, free_turns, perms_then, perms_turns}
 use Rattle.process_runs.proofs.Stretching.{all_taken, asked_runs, fits_left, goes_on, last_turn, no_line, says_last}
 use Rattle.process_runs.proofs.taking.take_turns.Goals as goal
 
@@ -18,6 +19,11 @@ executed_free : (breaks : Breaks) (p most : ℕ) (old new : Machine) → StaysBu
 executed_free breaks p most old new others runs after =
     free_turns p old new (after_executions (addresses_of breaks p) most (wholes old) p) others runs after
     (λ q other none. none_after_executions q p other (addresses_of breaks p) most (wholes old) none)
+
+executed_perms : (breaks : Breaks) (p most : ℕ) (old new : Machine) → StaysBut p old new → is_running (wholes old) p ≡ true
+    → AreLike (wholes new) (after_executions (addresses_of breaks p) most (wholes old) p) → KeepsAllPerms old new
+executed_perms breaks p most old new others runs after =
+    perms_turns p old new (after_executions (addresses_of breaks p) most (wholes old) p) others runs (executions_leave p (addresses_of breaks p) most (wholes old)) after
 
 pub took_turns-requires : goal.took_turns-requires
 took_turns-requires c =
@@ -125,6 +131,17 @@ returns-clause-free c =
     let done = c.execute_up_to-steps in
     free_then c.args.machine.now done.new.machine c.end_stretch.new.machine (places_pairs c.args.machine.now done.new.machine done.ensures.places)
     (executed_free c.args.breakpoints.now c.args.p c.stretch.result c.args.machine.now done.new.machine done.ensures.others c.requires.runs done.ensures.after) c.end_stretch.ensures.free
+
+pub returns-in-Stepped-clause-perms : goal.returns-in-Stepped-clause-perms
+returns-in-Stepped-clause-perms c =
+    executed_perms c.args.breakpoints.now c.args.p c.stretch.result c.args.machine.now c.execute_up_to-steps.new.machine c.execute_up_to-steps.ensures.others c.requires.runs
+    c.execute_up_to-steps.ensures.after
+
+pub returns-clause-perms : goal.returns-clause-perms
+returns-clause-perms c =
+    let done = c.execute_up_to-steps in
+    perms_then c.args.machine.now done.new.machine c.end_stretch.new.machine
+    (executed_perms c.args.breakpoints.now c.args.p c.stretch.result c.args.machine.now done.new.machine done.ensures.others c.requires.runs done.ensures.after) c.end_stretch.ensures.perms
 
 pub returns-in-Stepped-clause-kept : goal.returns-in-Stepped-clause-kept
 returns-in-Stepped-clause-kept c = places_pairs c.args.machine.now c.execute_up_to-steps.new.machine c.execute_up_to-steps.ensures.places

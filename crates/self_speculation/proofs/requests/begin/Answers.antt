@@ -17,7 +17,7 @@ returns-in-Ok c =
     let mid = with_memory old c.start.new.mem in
     let process = c.args.process in
     let put = c.set_process.ensures
-        ∙ (λ i. with_process_at mid c.args.p (record { regs = c.gone_on.ensures i; state = process.state; saved = Some (record { regs = c.kept.ensures i; state = process.state }) })) in
+    ∙ (λ i. with_process_at mid c.args.p (record { regs = c.gone_on.ensures i; state = process.state; saved = Some (record { regs = c.kept.ensures i; state = process.state }) })) in
     record {
       does = subst (DoesCall c.args.p Speculate process c.args.at old Stepped) (sym put)
           (started c.args.p process c.args.at old c.requires.there c.start.new.mem

@@ -50,7 +50,7 @@ invariant_of-self c =
     let s = c.self.inside in
     let free = free_number s.machine (spaces_kept s.checkpoints) s.numbers c.in-Some.p c.self.invariant.0 (taken_free s.numbers c.least.result c.in-Some.p c.least.ensures c.in-Some.is) in
     let loaded = c.in-Ok-load.ensures.loads.2 in (
-      session_load s.machine c.load.new.self (spaces_kept s.checkpoints) s.numbers c.take.new.self c.in-Some.p c.args.file.now c.self.invariant.0 free.0 free.1 c.take.ensures loaded,
+      session_load s.machine c.load.new.self (spaces_kept s.checkpoints) s.numbers c.take.new.self c.in-Some.p c.args.file.now c.self.invariant.0 free.0 free.1 c.take.ensures c.in-Ok.ensures.taken loaded,
       c.self.invariant.1,
       breaks_loaded s.machine c.load.new.self s.breakpoints c.in-Some.p c.args.file.now loaded c.self.invariant.2,
     )

@@ -27,7 +27,7 @@ pub invariant_of-self : goal.invariant_of-self
 invariant_of-self c =
     let s = c.self.inside in
     let done = c.next_turn in (
-      session_kept s.machine done.new.machine (spaces_kept s.checkpoints) s.numbers c.self.invariant.0 done.ensures.kept done.ensures.free,
+      session_kept s.machine done.new.machine (spaces_kept s.checkpoints) s.numbers c.self.invariant.0 done.ensures.kept done.ensures.free done.ensures.perms,
       c.self.invariant.1,
       breaks_kept s.machine done.new.machine s.breakpoints (stay_kept s.machine done.new.machine done.ensures.kept) c.self.invariant.2,
     )
