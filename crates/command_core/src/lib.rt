@@ -29,8 +29,8 @@ mod saving;
 mod session;
 
 pub use modes::Modes;
-pub use session::{CheckpointView, Counts, ProcessView, Session};
 pub use process_runs::{Order, Running};
+pub use session::{CheckpointView, Counts, ProcessView, Session};
 
 /// Bytes of an instruction's word.
 pub const WORD_BYTES: u64 = 4;

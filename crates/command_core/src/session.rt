@@ -569,7 +569,13 @@ impl Session {
         ensures { result ≡ run_found self.now.state.breakpoints self.now.state.wholes
             (begun_by order self.now.modes.calls turns) }
     {
-        begin(&self.machine, &self.breakpoints, order, self.modes.calls, turns)
+        begin(
+            &self.machine,
+            &self.breakpoints,
+            order,
+            self.modes.calls,
+            turns,
+        )
     }
 
     /// Takes the next turn, and answers whose it was and what came of it. None exactly where an ending was found before,

@@ -235,11 +235,7 @@ fn ending_unbroken(machine: &Machine, running: &Running) -> Option<Stop>
 }
 
 /// The ending that holds, if one does.
-fn ending(
-    machine: &Machine,
-    breakpoints: &Breakpoints,
-    running: &Running,
-) -> Option<Stop>
+fn ending(machine: &Machine, breakpoints: &Breakpoints, running: &Running) -> Option<Stop>
     ensures { result ≡ ending breakpoints.now (wholes machine.now) running.now.run }
 {
     match last_break(machine, breakpoints, running) {

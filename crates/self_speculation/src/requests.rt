@@ -134,13 +134,7 @@ fn go_back(machine: &mut Machine, p: u16, process: Process, at: Regs, saved: Sav
 /// Does a request of process `p`, which runs and is there with its space, of which no page awaits, and of which registers and state are kept
 /// exactly where it is speculating. `at` are its registers at the request. Takes no memory. Costs what the command of the same name
 /// costs.
-fn do_call(
-    machine: &mut Machine,
-    p: u16,
-    process: Process,
-    at: Regs,
-    call: ProcessCall,
-) -> Turn
+fn do_call(machine: &mut Machine, p: u16, process: Process, at: Regs, call: ProcessCall) -> Turn
     requires there { get machine.old.processes p ≡ Some process }
     requires space { has_space machine.old p ≡ true }
     requires none_awaits { (space_in (spaces_of machine.old) p).awaiting ≡ empty }

@@ -1,12 +1,11 @@
-use Rattle.std.proofs.Common.{ap, subst, sym, refl, ◌∙◌}
-use Rattle.std.specs.Prelude.{Ok, Err, Some, None}
+use Rattle.std.proofs.Common.{ap, subst, sym, ◌∙◌}
+use Rattle.std.specs.Prelude.{Ok, Some}
 use Rattle.overlay_memory.specs.View.{TranslatedView, translations_of}
 use Rattle.translation_cache.specs.Translations.{flushed}
 use Rattle.speculation.specs.Speculated.{Starts}
-use Rattle.rv_execute.specs.Registers.{Registers}
 use Rattle.ovl_io.specs.declared.turn.Turn.TheVariants.{Stepped}
 use Rattle.process_calls.specs.declared.calls.ProcessCall.TheVariants.{Speculate}
-use Rattle.machine_core.specs.Machine.{Machine, with_memory, with_process_at}
+use Rattle.machine_core.specs.Machine.{with_memory, with_process_at}
 use Rattle.self_speculation.specs.Requests.{DoesCall}
 use Rattle.self_speculation.proofs.Requesting.{started}
 use Rattle.self_speculation.proofs.requests.begin.Goals as goal
@@ -17,7 +16,7 @@ returns-in-Ok c =
     let mid = with_memory old c.start.new.mem in
     let process = c.args.process in
     let put = c.set_process.ensures
-        ∙ (λ i. with_process_at mid c.args.p (record { regs = c.gone_on.ensures i; state = process.state; saved = Some (record { regs = c.kept.ensures i; state = process.state }) })) in
+    ∙ (λ i. with_process_at mid c.args.p (record { regs = c.gone_on.ensures i; state = process.state; saved = Some (record { regs = c.kept.ensures i; state = process.state }) })) in
     record {
       does = subst (DoesCall c.args.p Speculate process c.args.at old Stepped) (sym put)
           (started c.args.p process c.args.at old c.requires.there c.start.new.mem

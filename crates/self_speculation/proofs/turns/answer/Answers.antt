@@ -1,4 +1,4 @@
-use Rattle.std.proofs.Common.{◌≡◌, ℕ, Bool, true, false, subst, sym, ap, ◌∙◌, inl, inr}
+use Rattle.std.proofs.Common.{subst, sym, inl, inr}
 use Rattle.translation_cache.specs.Absent.{HasNone}
 use Rattle.machine_core.specs.Machine.{AreLike, Machine, wholes}
 use Rattle.machine_core.specs.Turns.{after_asked}
