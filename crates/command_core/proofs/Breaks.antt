@@ -1,23 +1,16 @@
-use Rattle.std.proofs.Common.{◌≡◌, ℕ, ◌+◌, ◌<◌, ◌&&◌, Bool, true, false, cond, List, sym, ap, subst, ◌∙◌, refl, arith, Option, Some, None}
-use Rattle.std.specs.Borrow.{Bor}
-use Rattle.std.specs.Option.{is_some, option_and_then, option_copied, option_map_or, unwrap_or}
+use Rattle.std.proofs.Common.{◌≡◌, ℕ, true, List, sym, ap, ◌∙◌, refl, Option, Some, None}
+use Rattle.std.specs.Option.{is_some, option_map_or}
 use Rattle.std.specs.FinMap.{FinMap, get, insert, remove}
-use Rattle.std.specs.FinSet.{contains, contains-empty, empty, remove as without_address}
+use Rattle.std.specs.FinSet.{remove as without_address}
 use Rattle.std.specs.Ordering.{nat_cmp}
 use Rattle.number_maps.specs.Keys.{alike, by_key, get_other, get_same, removed_other, removed_same}
-use Rattle.breakpoints.specs.Breakpoints.{Addresses, Breaks, addresses_of, without_break}
-use Rattle.machine_core.specs.Process.{Process, runs}
-use Rattle.machine_core.specs.Machine.{Machine, StaysBut, Wholes, shown_process}
+use Rattle.breakpoints.specs.Breakpoints.{Addresses, Breaks, without_break}
+use Rattle.machine_core.specs.Machine.{Machine, StaysBut, shown_process}
 use Rattle.machine_core.specs.declared.process.Process as declared
 use Rattle.machine_core.specs.Load.{IsLoaded, loaded_process}
-use Rattle.machine_core.specs.Turns.{Guest, with_guest}
-use Rattle.machine_core.specs.Executions.{is_at_stop, stops_in}
-use Rattle.report_text.specs.declared.answer.Stop.{Stop}
-use Rattle.report_text.specs.declared.answer.Stop.TheVariants.{Break}
 use Rattle.command_core.specs.Sessions.{AreBreaksOf}
 use Rattle.process_runs.specs.Places.{NoneGoes}
 use Rattle.process_runs.specs.PlaceLaws.{not_free}
-use Rattle.process_runs.specs.Turns.{Progress, break_at, break_of, last_break, run_after}
 
 -- Breakpoints: what is left of them.
 

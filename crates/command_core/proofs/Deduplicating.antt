@@ -1,5 +1,5 @@
-use Rattle.std.proofs.Common.{◌≡◌, ℕ, ◌/◌, ◌<◌, Bool, true, false, cond, sym, ap, subst, ◌∙◌, refl, arith, nat_lt, Option, Some, None, List, [], ◌∷◌, ◌++◌}
-use Rattle.std.specs.Prelude.{length, not, Result, Ok, Err}
+use Rattle.std.proofs.Common.{◌≡◌, ℕ, ◌/◌, Bool, true, false, sym, ap, subst, ◌∙◌, refl, arith, nat_lt, Option, Some, None, List, [], ◌∷◌, ◌++◌}
+use Rattle.std.specs.Prelude.{length, not, Ok, Err}
 use Rattle.std.specs.Option.{is_some, option_map}
 use Rattle.std.proofs.lemmas.Bool.Decides.{nat_tests}
 use Rattle.std.specs.FinMap.{get}
@@ -11,7 +11,7 @@ use Rattle.ledger.specs.Events.{Rebase, ledger_after}
 use Rattle.ovl_io.specs.Memory.{Page}
 use Rattle.overlay_pages.specs.State.{PageState, State as Spaces, books, memory_of, seen_page}
 use Rattle.overlay_memory.specs.Pieces.{KeepsAllElse}
-use Rattle.overlay_memory.specs.Rebased.{CanRebase, HasRebased, apart_in, rebase_of}
+use Rattle.overlay_memory.specs.Rebased.{apart_in}
 use Rattle.overlay_memory.specs.StateMemory.{memory_at}
 use Rattle.overlay_memory.specs.View.{TranslatedView, state_of, translations_of}
 use Rattle.page_dedup.specs.Deduplicated.{Deduplicates, HasShared, shares_in, shares_of}
@@ -21,14 +21,14 @@ use Rattle.space_maps.specs.Spaces.{page_in, space_in}
 use Rattle.translation_cache.specs.Translations.{flushed}
 use Rattle.machine_core.specs.Process.{Process, is_speculating}
 use Rattle.machine_core.specs.declared.process.Process as declared
-use Rattle.machine_core.specs.Machine.{AreLike, Machine, is_marked, lists_of, processes_of, spaces_of, whole_in, wholes, with_memory}
+use Rattle.machine_core.specs.Machine.{Machine, is_marked, lists_of, processes_of, spaces_of, whole_in, with_memory}
 use Rattle.machine_core.specs.Laws.{processes_at}
 use Rattle.report_text.specs.declared.answer.Answer.{Answer}
 use Rattle.report_text.specs.declared.answer.Answer.TheVariants.{Done, Forked, Full, Loaded, Memory, Refused, Saved, Shared}
 use Rattle.report_text.specs.declared.answer.Code.{Code}
-use Rattle.report_text.specs.declared.answer.Code.TheVariants.{FrameHere, NoProcess, NotAlike, NotAlone, Speculating, Unmapped}
+use Rattle.report_text.specs.declared.answer.Code.TheVariants.{FrameHere, NoProcess, NotAlike, NotAlone, Unmapped}
 use Rattle.report_text.specs.Answers.{HasAnswerLine}
-use Rattle.command_core.specs.State.{Checkpoint, Registry, State, registry_of}
+use Rattle.command_core.specs.State.{Checkpoint, State, registry_of}
 use Rattle.command_core.specs.declared.checkpoints.Kept.{Kept}
 use Rattle.command_core.specs.Kept.{checkpoints_in, shown_state, spaces_kept}
 use Rattle.command_core.specs.Sessions.{InSession, IsSession, session_state}
@@ -41,7 +41,7 @@ use Rattle.command_core.specs.LikeLaws.{states_same}
 use Rattle.command_core.proofs.Keeping.{all_shown}
 use Rattle.command_core.proofs.Places.{free_same, keeps_same}
 use Rattle.command_core.proofs.Rows.{not_over, row_accepted, row_refused}
-use Rattle.command_core.proofs.Speculating.{IsSeenSame, same_like, same_stays, speculates, wholes_left}
+use Rattle.command_core.proofs.Speculating.{IsSeenSame, same_like, same_stays, speculates}
 
 -- Pages of a process that are put on those of another one.
 

@@ -1,4 +1,4 @@
-use Rattle.std.proofs.Common.{◌≡◌, ℕ, ◌+◌, ◌<◌, ◌≤◌, suc, Bool, true, false, cond, List, [], ◌∷◌, map, sym, ap, subst, ◌∙◌, refl, arith, inl, inr, Option, Some, None}
+use Rattle.std.proofs.Common.{◌≡◌, ℕ, ◌+◌, ◌<◌, ◌≤◌, suc, Bool, true, false, cond, List, [], ◌∷◌, map, sym, ap, subst, ◌∙◌, refl, arith, Option, Some, None}
 use Rattle.std.specs.Prelude.{◌||◌, eqb, nat_le, slice_get, IfSome, Ok}
 use Rattle.std.specs.Option.{is_some, option_map, MatchOption}
 use Rattle.std.specs.List.{AllByRecursion, IsDistinct, filter, list_any}

@@ -1,8 +1,8 @@
-use Rattle.std.proofs.Common.{◌≡◌, ℕ, ◌+◌, ◌<◌, ◌≤◌, Bool, true, false, cond, sym, ap, subst, ◌∙◌, refl, arith, nat_lt, Option, Some, None, List, [], ◌∷◌, ◌++◌}
+use Rattle.std.proofs.Common.{◌≡◌, ℕ, ◌<◌, ◌≤◌, Bool, true, false, cond, sym, ap, subst, ◌∙◌, refl, arith, Option, Some, None, List, [], ◌∷◌, ◌++◌}
 use Rattle.std.specs.Option.{is_some, option_map, option_map_or, unwrap_or}
-use Rattle.std.specs.List.{All, AllByRecursion, IsDistinct, list_any}
+use Rattle.std.specs.List.{AllByRecursion, IsDistinct, list_any}
 use Rattle.std.specs.Ordering.{nat_cmp}
-use Rattle.std.specs.Prelude.{◌==◌, ◌&&◌, IfSome, nat_eq, not}
+use Rattle.std.specs.Prelude.{◌==◌, ◌&&◌, nat_eq, not}
 use Rattle.std.proofs.lemmas.Bool.Decides.{nat_tests}
 use Rattle.std.specs.FinMap.{FinMap, empty, get, get-empty, insert, remove}
 use Rattle.number_maps.specs.Keys.{alike, by_key, get_other, get_same, removed_other, removed_same}
@@ -20,18 +20,16 @@ use Rattle.overlay_memory.specs.View.{TranslatedView}
 use Rattle.space_maps.specs.Books.{books_empty}
 use Rattle.space_maps.specs.Laws.{space_absent, space_left}
 use Rattle.space_maps.specs.Spaces.{cut_space, holds_space, space_in}
-use Rattle.machine_core.specs.Process.{Process, is_speculating, runs}
+use Rattle.machine_core.specs.Process.{Process, is_speculating}
 use Rattle.machine_core.specs.declared.process.Process as declared
-use Rattle.machine_core.specs.Machine.{AreLike, KeepsPlaces, Machine, Processes, StaysBut, has_saved, has_space, is_marked, is_running, kept_whole, lists_of, none_saved, processes_of, shown_process, spaces_of, whole_in, wholes, with_memory, with_process_at, Wholes}
-use Rattle.machine_core.specs.Laws.{processes_at, runs_shown, whole_by}
+use Rattle.machine_core.specs.Machine.{KeepsPlaces, Machine, Processes, StaysBut, has_saved, has_space, is_marked, kept_whole, lists_of, none_saved, processes_of, shown_process, spaces_of, whole_in, wholes, with_memory, with_process_at}
+use Rattle.machine_core.specs.Laws.{processes_at, whole_by}
 use Rattle.machine_core.specs.Load.{IsAsBefore, IsLoaded, loaded_process}
-use Rattle.round_robin.specs.MemberLaws.{next_has}
-use Rattle.round_robin.specs.Turns.{Turns, next_number}
 use Rattle.command_core.specs.Sessions.{HasNoProcess, HaveFitPages, IsSession, KeepsSession, bases_of}
 use Rattle.self_speculation.specs.Requests.{KeepsPairs}
 use Rattle.self_speculation.specs.RequestLaws.{places_pairs}
 use Rattle.ovl_io.specs.Memory.{Page}
-use Rattle.process_runs.specs.Places.{KeepsAllPerms, KeepsFree, NoneGoes, OwnSpaces}
+use Rattle.process_runs.specs.Places.{KeepsAllPerms, KeepsFree}
 use Rattle.process_runs.specs.PlaceLaws.{none_is, not_free, free_start}
 use Rattle.free_numbers.specs.Numbers.{IsPut, is_in, is_number}
 use Rattle.overlay_bits.specs.Below.{and_false, and_true}

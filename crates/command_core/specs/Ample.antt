@@ -1,30 +1,19 @@
-use Rattle.std.specs.Prelude.{◌≡◌, ℕ, ◌&&◌, Bool, true, false, cond, List, [], Option, Some, None, refl}
+use Rattle.std.specs.Prelude.{◌≡◌, ℕ, ◌&&◌, Bool, true, false, cond, List, Option, Some, None, refl}
 use Rattle.std.proofs.Common.{ap, ◌∙◌}
 use Rattle.std.specs.Option.{option_map_or}
-use Rattle.std.specs.FinMap.{get}
-use Rattle.ledger.specs.Events as event
 use Rattle.ledger.specs.AmpleLaws.{AreAmple}
 use Rattle.machine_core.specs.Ample.{within_ample}
-use Rattle.machine_core.specs.Process.{Process, Whole}
 use Rattle.report_text.specs.declared.answer.Answer.{Answer}
 use Rattle.report_text.specs.declared.answer.Answer.TheVariants.{Done, Loaded, Forked, Saved, Shared, Refused, Full, Memory}
 use Rattle.report_text.specs.declared.answer.Code.{Code}
-use Rattle.report_text.specs.declared.answer.Code.TheVariants.{NoCheckpoint, NoProcess, NotSpeculating}
 use Rattle.rv_asm.specs.Assembly.{assembled}
 use Rattle.script_text.specs.declared.command.Command.{Command}
-use Rattle.script_text.specs.declared.command.Command.TheVariants as command
-use Rattle.command_core.specs.declared.process_changes.ProcessChange.{ProcessChange}
-use Rattle.command_core.specs.declared.process_changes.ProcessChange.TheVariants.{Speculate, Commit, Discard, Promote, PromoteAll, Map, Unmap, Set}
-use Rattle.command_core.specs.State.{Checkpoint, Registry, State, registry_of}
+use Rattle.command_core.specs.State.{State, registry_of}
 use Rattle.command_core.specs.Sessions.{InSession}
-use Rattle.command_core.specs.Rows.{Row, accepts, change_by, falls_short, first_refusal, row_is_full, ledger_by, plain_row, refused_row, refuses, registered}
+use Rattle.command_core.specs.Rows.{Row, accepts, change_by, falls_short, first_refusal, row_is_full, ledger_by, refuses, registered}
 use Rattle.command_core.specs.Giving.{ComesTo, is_full_answer}
 use Rattle.command_core.specs.CommandCases.{asm_itself, row_itself}
-use Rattle.command_core.specs.Changes.{asm_row, change_row, drop_row, load_row, on_process, row_in}
-use Rattle.command_core.specs.Copies.{fork_row}
-use Rattle.command_core.specs.Debugging.{break_row, poke_row, unbreak_row}
-use Rattle.command_core.specs.Checkpoints.{checkpoint_named, checkpoint_row, forget_row, on_checkpoint, restore_row}
-use Rattle.command_core.specs.ProcessChanges.{after_discard, leaves, process_row}
+use Rattle.command_core.specs.Changes.{asm_row, load_row, row_in}
 use Rattle.command_core.specs.Standing.{GivesAs, SessionStandsFor}
 
 -- Where the frames are ample for the ledger that a change leads to, the change isn't full.

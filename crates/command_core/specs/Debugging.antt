@@ -1,4 +1,4 @@
-use Rattle.std.specs.Prelude.{ℕ, ◌/◌, Bool, true, false, if◌then◌else◌, List, [], ◌∷◌, length, Option, None}
+use Rattle.std.specs.Prelude.{ℕ, ◌/◌, true, false, if◌then◌else◌, List, [], ◌∷◌, length, None}
 use Rattle.std.specs.Option.{option_map}
 use Rattle.sizes.specs.declared.TheConstants.{PAGE_BYTES}
 use Rattle.ovl_io.specs.Memory.{Memory, first_denied, with_bytes}
@@ -10,11 +10,11 @@ use Rattle.machine_core.specs.Process.{Process, is_speculating}
 use Rattle.overlay_memory.specs.declared.error.MemoryError.{MemoryError}
 use Rattle.overlay_memory.specs.declared.error.MemoryError.TheVariants as memory
 use Rattle.report_text.specs.declared.answer.Answer.{Answer}
-use Rattle.report_text.specs.declared.answer.Answer.TheVariants.{Done, Refused, Full}
+use Rattle.report_text.specs.declared.answer.Answer.TheVariants.{Refused, Full}
 use Rattle.report_text.specs.declared.answer.Code.{Code}
 use Rattle.report_text.specs.declared.answer.Code.TheVariants.{Forbidden, Unmapped}
 use Rattle.command_core.specs.State.{Registry}
-use Rattle.command_core.specs.Rows.{MemoryTaken, Row, TakesLast, TakesNone, plain_row}
+use Rattle.command_core.specs.Rows.{Row, TakesLast, TakesNone, plain_row}
 use Rattle.command_core.specs.Refusals.{has_page}
 use Rattle.command_core.specs.ProcessChanges.{leaves, with_pages}
 

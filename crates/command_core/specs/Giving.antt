@@ -1,4 +1,4 @@
-use Rattle.std.specs.Prelude.{◌≡◌, ℕ, Bool, List, false, true}
+use Rattle.std.specs.Prelude.{◌≡◌, Bool, List, false, true}
 use Rattle.breakpoints.specs.Breakpoints.{Breaks}
 use Rattle.machine_core.specs.Machine.{Machine}
 use Rattle.machine_core.specs.Load.{IsAsBefore}

@@ -1,31 +1,23 @@
-use Rattle.std.specs.Prelude.{◌≡◌, ℕ, zero, suc, ◌-◌, ◌*◌, ◌==◌, nat_lt, ◌&&◌, Bool, true, false, cond, List, ◌∷◌, ◌++◌, flat_map, length, Option, Some, None, refl, ◌≤◌}
-use Rattle.std.proofs.Common.{sym, ap, subst, ◌∙◌, arith, eqb-true}
-use Rattle.std.specs.Option.{is_some, option_and_then, option_map_or, option_or}
+use Rattle.std.specs.Prelude.{◌≡◌, ℕ, ◌-◌, ◌*◌, nat_lt, ◌&&◌, Bool, true, false, cond, List, ◌++◌, flat_map, length, Option, Some, None, refl}
+use Rattle.std.proofs.Common.{sym, ap, subst, ◌∙◌}
+use Rattle.std.specs.Option.{is_some, option_map_or}
 use Rattle.std.specs.FinMap.{entries, get}
 use Rattle.breakpoints.specs.Breakpoints.{Breaks}
 use Rattle.ovl_io.specs.Memory.{Memory as Contents, first_denied}
-use Rattle.ovl_io.specs.declared.turn.Turn.{Turn}
-use Rattle.ovl_io.specs.declared.turn.Turn.TheVariants as turn
 use Rattle.ledger.specs.Alike.{AreAlike}
 use Rattle.ledger.specs.AlikeUnits.{lines_alike, units_alike}
 use Rattle.ledger.specs.RowLaws.{alike_after}
 use Rattle.machine_core.specs.Process.{Process, runs}
-use Rattle.machine_core.specs.Machine.{AreLike, Processes, Wholes, unit_limit, running_among}
-use Rattle.machine_core.specs.Turns.{after_turn, turn_of}
-use Rattle.machine_core.specs.Laws.{like_after_turn, like_chain, like_itself, like_running, like_turn}
-use Rattle.round_robin.specs.Turns.{next_number}
+use Rattle.machine_core.specs.Machine.{AreLike, Processes, Wholes, unit_limit}
+use Rattle.machine_core.specs.Laws.{like_chain, like_itself}
 use Rattle.report_text.specs.declared.answer.Answer.{Answer}
 use Rattle.report_text.specs.declared.answer.Answer.TheVariants.{Done, Loaded, Forked, Saved, Shared, Refused, Full, Memory}
 use Rattle.report_text.specs.declared.answer.Code.{Code}
 use Rattle.report_text.specs.declared.answer.Code.TheVariants.{Ended}
 use Rattle.report_text.specs.Lines.{list_line}
-use Rattle.report_text.specs.declared.answer.Stop.{Stop}
-use Rattle.report_text.specs.declared.answer.Stop.TheVariants as stop
-use Rattle.report_text.specs.Answers.{answer_text, stop_text, turn_text}
+use Rattle.report_text.specs.Answers.{answer_text}
 use Rattle.script_text.specs.declared.command.Command.{Command}
 use Rattle.command_core.specs.declared.modes.Modes.{Modes}
-use Rattle.process_runs.specs.declared.turns.Order.{Order}
-use Rattle.process_runs.specs.declared.turns.Order.TheVariants.{ByTurns, Alone}
 use Rattle.command_core.specs.declared.TheConstants.{WORD_BYTES}
 use Rattle.command_core.specs.State.{AreLikeStates, Checkpoint, Registry, State, registry_of, with_wholes}
 use Rattle.command_core.specs.Sessions.{InSession}
@@ -33,7 +25,7 @@ use Rattle.command_core.specs.Rows.{Changed, Row, accepts, change_by, event_need
 use Rattle.command_core.specs.Giving.{ComesTo, GivesChange}
 use Rattle.command_core.specs.Changes.{LedgerTold, TellsCounts, TellsDedup, TellsDedupAll, change_row, ledger_row, load_row, row_in, told_by_ledger}
 use Rattle.process_runs.specs.LikeLaws.{like_text, like_ran}
-use Rattle.process_runs.specs.Turns.{Progress, Ran, begun_alone, by_turns, ran, ran_from, ran_text}
+use Rattle.process_runs.specs.Turns.{Progress, begun_alone, by_turns, ran_from, ran_text}
 use Rattle.command_core.specs.Looks.{counts_of}
 use Rattle.command_core.specs.Commands.{Performed, change_told, checkpoint_text, counts_text, disasm_text, dump_text, exec_done, exec_turns, ledger_done, list_head, list_text, performed, prints_of, prints_read, process_text, regs_done, regs_of, row_told, stats_text, step_done, steps, takes_turns, told, rules}
 use Rattle.command_core.specs.CommandCases.{GoesBy, ByExec, ByRun, ByStep, ByList, ByRegs, ByDump, ByDisasm, ByLedger, ByChange, goes_by}

@@ -17,7 +17,7 @@ use Rattle.promotion.specs.declared.error.PromoteError.TheVariants as promote
 use Rattle.speculation.specs.declared.error.SpeculationError.{SpeculationError}
 use Rattle.speculation.specs.declared.error.SpeculationError.TheVariants as speculation
 use Rattle.report_text.specs.declared.answer.Answer.{Answer}
-use Rattle.report_text.specs.declared.answer.Answer.TheVariants.{Done, Refused, Full}
+use Rattle.report_text.specs.declared.answer.Answer.TheVariants.{Refused, Full}
 use Rattle.report_text.specs.declared.answer.Code.TheVariants.{Speculating, NotSpeculating, Unmapped}
 use Rattle.command_core.specs.declared.process_changes.ProcessChange.{ProcessChange}
 use Rattle.command_core.specs.declared.process_changes.ProcessChange.TheVariants.{Speculate, Commit, Discard, Promote, PromoteAll, Map, Unmap, Set}

@@ -1,5 +1,4 @@
 use Rattle.std.specs.Prelude.{◌≡◌, ℕ, ◌<◌, ◌==◌, ◌&&◌, nat_eq, not, true, List, [], ◌∷◌, map, None, Bool}
-use Rattle.std.specs.Option.{is_some}
 use Rattle.std.specs.List.{AllByRecursion, IsDistinct, list_any}
 use Rattle.std.specs.Ordering.{nat_cmp}
 use Rattle.std.specs.FinMap.{FinMap, empty, get}
@@ -11,7 +10,6 @@ use Rattle.unit_map.specs.Pieces.{Piece, count}
 use Rattle.breakpoints.specs.Breakpoints.{Breaks}
 use Rattle.free_numbers.specs.Numbers.{is_in, is_number}
 use Rattle.translation_cache.specs.Absent.{HasNone}
-use Rattle.space_maps.specs.Spaces.{space_in}
 use Rattle.machine_core.specs.Machine.{Machine, has_saved, has_space, is_marked, lists_of, spaces_of, wholes}
 use Rattle.command_core.specs.declared.modes.Modes.{Modes}
 use Rattle.process_runs.specs.Places.{KeepsFree, NoPageAwaits, NoneGoes, OwnSpaces}

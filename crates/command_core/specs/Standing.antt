@@ -3,7 +3,7 @@ use Rattle.std.specs.FinMap.{get}
 use Rattle.ovl_io.specs.declared.turn.Turn.{Turn}
 use Rattle.report_text.specs.declared.answer.Answer.{Answer}
 use Rattle.report_text.specs.declared.answer.Answer.TheVariants.{Memory}
-use Rattle.command_core.specs.State.{AreLikeStates, Registry, State, registry_of, with_wholes}
+use Rattle.command_core.specs.State.{AreLikeStates, State, with_wholes}
 use Rattle.command_core.specs.Sessions.{InSession}
 use Rattle.command_core.specs.Rows.{Row, change_by, may_want_memory}
 use Rattle.command_core.specs.Giving.{ComesTo}

@@ -1,32 +1,24 @@
 use Rattle.std.specs.Prelude.{◌≡◌, ℕ, zero, suc, ◌+◌, ◌-◌, ◌*◌, Bool, true, false, cond, List, [], ◌∷◌, ◌++◌, flat_map, Option, Some, None, refl}
 use Rattle.std.proofs.Common.{sym, ap, subst, ◌∙◌, append_assoc}
-use Rattle.std.specs.Option.{is_some, option_map, option_map_or}
-use Rattle.std.specs.FinMap.{get, insert}
-use Rattle.breakpoints.specs.Breakpoints.{Breaks}
+use Rattle.std.specs.Option.{is_some, option_map_or}
+use Rattle.std.specs.FinMap.{get}
 use Rattle.ovl_io.specs.Memory.{Memory as Contents, first_denied}
-use Rattle.ovl_io.specs.declared.turn.Turn.{Turn}
-use Rattle.ovl_io.specs.declared.turn.Turn.TheVariants as turn
 use Rattle.rv_execute.specs.Registers.{Registers}
 use Rattle.rv_mul.specs.Tables.{table_of}
 use Rattle.machine_core.specs.Process.{Process, is_speculating, runs}
-use Rattle.machine_core.specs.Machine.{Processes, Wholes, unit_limit}
-use Rattle.machine_core.specs.Turns.{after_turn, guest_after, guest_of, guest_refused, guest_stepped, is_full, process_after, step_of, turn_in, turn_of, units_needed, with_guest}
-use Rattle.machine_core.specs.Ample.{is_full_turn, step_fits}
-use Rattle.machine_core.specs.Laws.{after_extension}
+use Rattle.machine_core.specs.Machine.{unit_limit}
 use Rattle.report_text.specs.declared.answer.Answer.{Answer}
 use Rattle.report_text.specs.declared.answer.Answer.TheVariants.{Done, Loaded, Forked, Saved, Shared, Refused, Full, Memory}
 use Rattle.report_text.specs.declared.answer.Code.{Code}
 use Rattle.report_text.specs.declared.answer.Code.TheVariants.{Ended, NoProcess, Unmapped}
-use Rattle.report_text.specs.declared.answer.Stop.{Stop}
-use Rattle.report_text.specs.declared.answer.Stop.TheVariants as stop
-use Rattle.report_text.specs.Answers.{answer_text, stop_text, turn_text}
-use Rattle.report_text.specs.FullLines.{AreWholeLines, answer_lines, answer_shows, behind_lines, ends_checkpoint, ends_disasm_by, ends_dump, ends_list, ends_process, ends_register, ends_regs, ends_stats, has_full_line, lines_both, no_lines, stop_lines, turn_lines, turn_shows}
+use Rattle.report_text.specs.Answers.{answer_text, stop_text}
+use Rattle.report_text.specs.FullLines.{AreWholeLines, answer_lines, answer_shows, behind_lines, ends_checkpoint, ends_disasm_by, ends_dump, ends_list, ends_process, ends_register, ends_regs, ends_stats, has_full_line, lines_both, no_lines, stop_lines, turn_lines}
 use Rattle.script_text.specs.declared.command.Command.{Command}
 use Rattle.command_core.specs.declared.modes.Modes.{Modes}
 use Rattle.command_core.specs.declared.TheConstants.{WORD_BYTES}
 use Rattle.command_core.specs.State.{Registry, State, registry_of}
 use Rattle.command_core.specs.Rows.{Changed, MemoryTaken, Row, TakesFirst, TakesLast, TakesNone, accepts, change_by, event_needs, falls_short, first_refusal, row_is_full as is_row_full, may_want_memory, refuses, wants_by}
-use Rattle.command_core.specs.Changes.{LedgerTold, TellsCounts, TellsDedup, TellsDedupAll, change_row, ledger_row, load_row, told_by_ledger}
+use Rattle.command_core.specs.Changes.{LedgerTold, TellsCounts, TellsDedup, TellsDedupAll, change_row, load_row, told_by_ledger}
 use Rattle.process_runs.specs.Turns.{Progress, Ran, begun_alone, by_turns, ran_from, ran_text}
 use Rattle.process_runs.specs.UnboundedLaws.{same_ran, same_text}
 use Rattle.command_core.specs.Commands.{Performed, change_told, checkpoint_text, checkpoints_text, disasm_text, dump_from, dump_text, exec_done, exec_turns, ledger_done, list_head, list_text, performed, performed_by, text_printed, prints_of, prints_read, process_text, processes_text, registers_from, regs_head, regs_of, regs_text, row_told, rules, stats_text, steps, takes_turns, told}

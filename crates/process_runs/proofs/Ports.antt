@@ -8,7 +8,7 @@ use Rattle.ovl_io.specs.declared.turn.Turn.{Turn}
 use Rattle.ovl_io.specs.declared.turn.Turn.TheVariants as turn
 use Rattle.rv_execute.specs.Calls.{load_at}
 use Rattle.rv_execute.specs.Registers.{Registers, register}
-use Rattle.rv_execute.specs.Step.{Request, answered, buffered, exit, printed, request, write, write_count}
+use Rattle.rv_execute.specs.Step.{answered, buffered, exit, printed, request, write, write_count}
 use Rattle.machine_core.specs.Process.{Process}
 use Rattle.machine_core.specs.Machine.{Machine, Wholes, wholes}
 use Rattle.machine_core.specs.Turns.{guest_of, request_of, turn_asked}

@@ -13,7 +13,7 @@ use Rattle.report_text.specs.declared.answer.Stop.{Stop}
 use Rattle.report_text.specs.declared.answer.Stop.TheVariants.{Full, Limit}
 use Rattle.report_text.specs.Answers.{turn_text, stop_text}
 use Rattle.process_runs.specs.LikeLaws.{AreLikeRans, like_left, like_text, ran_ended, ran_more}
-use Rattle.process_runs.specs.Turns.{EndsRun, InRun, Progress, Ran, SaysThen, Speaks, ending, ending_by, event_then, first_event, last_break, left_by, left_of, lines_left, next_of, ran, ran_from, ran_text, rest_of, run_after, run_counted, run_took, stopped, turns_by}
+use Rattle.process_runs.specs.Turns.{EndsRun, InRun, Progress, Ran, SaysThen, Speaks, ending, ending_by, event_then, first_event, last_break, left_by, left_of, lines_left, next_of, ran, ran_from, rest_of, run_after, run_counted, run_took, stopped, turns_by}
 
 -- Turns, one after the other.
 

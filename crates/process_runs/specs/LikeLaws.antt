@@ -15,7 +15,7 @@ use Rattle.self_speculation.specs.Taken.{after_taken, taken_turn}
 use Rattle.self_speculation.specs.TakenLaws.{like_after_taken, like_taken}
 use Rattle.process_runs.specs.declared.turns.Order.{Order}
 use Rattle.process_runs.specs.declared.turns.Order.TheVariants.{ByTurns, Alone}
-use Rattle.process_runs.specs.Turns.{InRun, Progress, Ran, break_at, ending, ending_by, event_then, first_event, last_break, left_by, left_of, next_of, ran, ran_by, ran_from, ran_text, rest_of, run_after, run_found, stopped, turns_by, unless_broken, wholes_turns}
+use Rattle.process_runs.specs.Turns.{InRun, Progress, Ran, break_at, ending, ending_by, event_then, first_event, last_break, left_by, left_of, next_of, ran, ran_from, ran_text, rest_of, run_after, run_found, stopped, turns_by, unless_broken}
 
 -- Laws: turns of states that differ in the numbers of origins alone come to the same texts, and leave alike states.
 

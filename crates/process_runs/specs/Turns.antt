@@ -6,7 +6,6 @@ use Rattle.breakpoints.specs.Breakpoints.{Addresses, Breaks, addresses_of}
 use Rattle.ovl_io.specs.declared.process_state.ProcessState.{ProcessState}
 use Rattle.machine_core.specs.declared.process.Process as declared
 use Rattle.ovl_io.specs.declared.turn.Turn.{Turn}
-use Rattle.ovl_io.specs.declared.turn.Turn.TheVariants as turn
 use Rattle.machine_core.specs.Process.{Process, runs}
 use Rattle.rv_execute.specs.declared.outcome.Outcome.{Outcome}
 use Rattle.machine_core.specs.Ample.{is_full_turn}

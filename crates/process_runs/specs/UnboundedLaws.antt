@@ -9,12 +9,12 @@ use Rattle.process_calls.specs.declared.calls.ProcessCall.{ProcessCall}
 use Rattle.machine_core.specs.Process.{Process}
 use Rattle.machine_core.specs.Machine.{Processes, Wholes, unit_limit}
 use Rattle.machine_core.specs.Ample.{is_full_turn, step_fits}
-use Rattle.machine_core.specs.Turns.{Guest, guest_after, guest_of, guest_refused, guest_stepped, is_full, step_of, turn_in, units_needed, with_guest}
+use Rattle.machine_core.specs.Turns.{guest_after, guest_of, guest_refused, guest_stepped, is_full, step_of, turn_in, units_needed, with_guest}
 use Rattle.report_text.specs.declared.answer.Stop.{Stop}
 use Rattle.report_text.specs.declared.answer.Stop.TheVariants as stop
 use Rattle.report_text.specs.Answers.{stop_text, turn_text}
 use Rattle.report_text.specs.FullLines.{behind_lines, has_full_line, turn_lines, turn_shows}
-use Rattle.self_speculation.specs.Called.{CallRow, after_by, call_of, called_in, guest_called, row_does, row_is_full, row_needs, row_of, step_after_by, step_turn_by, turn_by}
+use Rattle.self_speculation.specs.Called.{after_by, call_of, called_in, guest_called, row_does, row_is_full, row_needs, row_of, step_after_by, step_turn_by, turn_by}
 use Rattle.self_speculation.specs.Taken.{after_taken, taken_step, taken_step_turn, taken_turn}
 use Rattle.self_speculation.specs.TakenLaws.{taken_extension}
 use Rattle.process_runs.specs.Turns.{Progress, Ran, event_then, first_event, last_break, next_of, ran, ran_by, ran_text, rest_of, run_after, stopped, turns_by, unless_broken}

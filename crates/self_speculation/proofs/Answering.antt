@@ -4,9 +4,8 @@ use Rattle.std.specs.Option.{is_some, option_map, option_map_or, unwrap_or}
 use Rattle.std.specs.FinMap.{get, insert}
 use Rattle.number_maps.specs.Keys.{get_same, insert_over}
 use Rattle.sizes.specs.declared.TheConstants.{PAGE_BYTES}
-use Rattle.ledger.specs.Alike.{AreAlike}
 use Rattle.ovl_io.specs.Permissions.{executable}
-use Rattle.ovl_io.specs.Memory.{Memory, Page, allows, denied_at, first_denied}
+use Rattle.ovl_io.specs.Memory.{Memory, Page, denied_at, first_denied}
 use Rattle.ovl_io.specs.declared.process_state.ProcessState.{ProcessState}
 use Rattle.ovl_io.specs.declared.process_state.ProcessState.TheVariants as state
 use Rattle.ovl_io.specs.declared.turn.Turn.{Turn}
@@ -16,16 +15,15 @@ use Rattle.overlay_memory.specs.StateMemory.{memory_at}
 use Rattle.translation_cache.specs.Absent.{HasNone, none_flushed}
 use Rattle.space_maps.specs.Spaces.{page_in}
 use Rattle.rv_execute.specs.Calls.{fetch_at}
-use Rattle.rv_execute.specs.Execution.{Asks}
 use Rattle.rv_execute.specs.Registers.{Registers, next, register}
 use Rattle.rv_execute.specs.declared.outcome.Outcome.TheVariants.{Asked}
 use Rattle.process_calls.specs.declared.calls.ProcessCall.{ProcessCall}
 use Rattle.process_calls.specs.Calls.{call_at, numbered}
 use Rattle.machine_core.specs.Process.{Process, runs}
 use Rattle.machine_core.specs.declared.process.Process as declared
-use Rattle.machine_core.specs.Machine.{AreLike, Machine, Processes, Wholes, is_running, lists_of, spaces_of, unit_limit, whole_in, wholes}
-use Rattle.machine_core.specs.Turns.{AreLikeGuests, Guest, after_asked, after_execution, after_turn, came_to, executed, execution_of, guest_after, guest_at, guest_of, guest_refused, translations_executed, turn_asked, turn_in, turn_of, with_guest}
-use Rattle.machine_core.specs.Laws.{IsRequest, like_after_asked, like_asked, like_chain, processes_at, turn_law}
+use Rattle.machine_core.specs.Machine.{AreLike, Machine, Processes, Wholes, is_running, spaces_of, unit_limit, whole_in, wholes}
+use Rattle.machine_core.specs.Turns.{AreLikeGuests, Guest, after_asked, after_execution, after_turn, came_to, executed, guest_after, guest_of, guest_refused, translations_executed, turn_asked, turn_in, turn_of, with_guest}
+use Rattle.machine_core.specs.Laws.{like_after_asked, like_asked, like_chain, processes_at, turn_law}
 use Rattle.self_speculation.specs.declared.TheConstants.{ECALL}
 use Rattle.self_speculation.specs.Called.{CallRow, after_by, after_called, call_by, call_of, called_in, called_turn, guest_called, row_after, row_does, row_is_full, row_needs, row_of, row_translations, row_turn, turn_by}
 use Rattle.self_speculation.specs.Taken.{AnswersRequest}

@@ -1,7 +1,7 @@
 use Rattle.std.proofs.Common.{◌≡◌, ℕ, ◌+◌, ◌-◌, ◌/◌, ◌%◌, ◌^◌, ◌<◌, Bool, true, false, cond, sym, ap, subst, ◌∙◌, refl, arith, Option, Some, None}
-use Rattle.std.specs.Prelude.{◌&&◌, nat_lt, Ok, Err}
+use Rattle.std.specs.Prelude.{Ok}
 use Rattle.std.specs.Option.{is_some, option_map_or, unwrap_or}
-use Rattle.std.specs.FinMap.{get, insert}
+use Rattle.std.specs.FinMap.{get}
 use Rattle.sizes.specs.declared.TheConstants.{PAGE_BYTES, PAGE_END}
 use Rattle.number_maps.specs.Keys.{by_key, get_other, get_same}
 use Rattle.ledger.specs.Alike.{AreAlike}
@@ -17,8 +17,6 @@ use Rattle.overlay_memory.specs.View.{TranslatedView, state_of, translations_of}
 use Rattle.translation_cache.specs.Translations.{flushed}
 use Rattle.space_maps.specs.Spaces.{holds_space, space_in}
 use Rattle.speculation.specs.Speculated.{Commits, Discards, Starts}
-use Rattle.speculation.specs.declared.error.SpeculationError.{SpeculationError}
-use Rattle.speculation.specs.declared.error.SpeculationError.TheVariants as speculation
 use Rattle.rv_execute.specs.Registers.{Registers, next, with_pc}
 use Rattle.process_calls.specs.declared.calls.ProcessCall.{ProcessCall}
 use Rattle.process_calls.specs.declared.calls.ProcessCall.TheVariants.{Speculate, Commit, Discard}
@@ -26,12 +24,12 @@ use Rattle.process_calls.specs.Calls.{gone_on, kept}
 use Rattle.machine_core.specs.Process.{Process, Whole}
 use Rattle.machine_core.specs.declared.process.Process as declared
 use Rattle.machine_core.specs.declared.process.SavedRegs.{SavedRegs}
-use Rattle.machine_core.specs.Machine.{AreLike, Machine, Processes, StaysBut, has_saved, is_marked, kept_in, kept_whole, lists_of, none_saved, processes_of, spaces_of, unit_limit, whole_in, wholes, with_memory, with_process_at}
+use Rattle.machine_core.specs.Machine.{AreLike, Machine, StaysBut, has_saved, is_marked, kept_in, kept_whole, lists_of, none_saved, spaces_of, unit_limit, whole_in, wholes, with_memory, with_process_at}
 use Rattle.machine_core.specs.Turns.{Guest, with_guest}
 use Rattle.self_speculation.specs.declared.TheConstants.{NOT_DONE}
-use Rattle.self_speculation.specs.Called.{CallRow, begun, committed, discarded, is_done, not_done, row_after, row_by, row_does, row_is_full, row_needs, row_of, row_translations, row_turn}
+use Rattle.self_speculation.specs.Called.{CallRow, begun, committed, discarded, is_done, not_done, row_after, row_by, row_does, row_is_full, row_needs, row_translations, row_turn}
 use Rattle.self_speculation.specs.Requests.{DoesCall, DoesRow, KeepsPairs, guest_at_request, whole_at}
-use Rattle.self_speculation.specs.RequestLaws.{is_over, not_over, processes_put}
+use Rattle.self_speculation.specs.RequestLaws.{not_over, processes_put}
 
 -- A machine of which a process made a request.
 

@@ -1,7 +1,6 @@
-use Rattle.std.proofs.Common.{◌≡◌, ℕ, ◌%◌, ◌==◌, Bool, true, false, cond, List, [], ◌∷◌, sym, ap, subst, ◌∙◌, refl, Option, Some, None}
-use Rattle.std.specs.Option.{option_map, option_map_or}
+use Rattle.std.proofs.Common.{◌≡◌, ℕ, ◌%◌, ◌==◌, Bool, true, false, cond, List, [], ◌∷◌, sym, ap, ◌∙◌, refl, Option, Some, None}
+use Rattle.std.specs.Option.{option_map}
 use Rattle.std.specs.FinMap.{get}
-use Rattle.ledger.specs.Ledger.{Ledger}
 use Rattle.ovl_io.specs.Memory.{Memory, denied_at}
 use Rattle.ovl_io.specs.declared.process_state.FaultKind.TheVariants as kind
 use Rattle.ovl_io.specs.declared.process_state.ProcessState.TheVariants as state
@@ -12,7 +11,7 @@ use Rattle.rv_execute.specs.declared.action.Action.TheVariants as action
 use Rattle.byteorder.specs.Endian.{little_bytes}
 use Rattle.rv_execute.specs.declared.action.Extension.{Extension}
 use Rattle.rv_execute.specs.declared.action.Size.{Size}
-use Rattle.rv_execute.specs.declared.outcome.Outcome.TheVariants.{Stepped, Asked, Fault, Full}
+use Rattle.rv_execute.specs.declared.outcome.Outcome.TheVariants.{Asked, Full}
 use Rattle.rv_execute.specs.Calls.{Call, Fetch, Load, Store, fetch_at, load_at, store_at, word_at}
 use Rattle.rv_execute.specs.Execution.{Asks, Execution, Faults, InstructionTable, Steps, Upshot, action_by, after, completed, count_of, decoded_by, effect, execution_by, fault, fetch_effect_by, load_effect, outcome_by, store_effect}
 use Rattle.rv_execute.specs.Registers.{Registers, next, next_pc, with_pc, with_register}

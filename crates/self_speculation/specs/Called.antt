@@ -1,6 +1,5 @@
-use Rattle.std.specs.Prelude.{◌≡◌, ℕ, nat_lt, ◌&&◌, Bool, true, false, if◌then◌else◌, Option, Some, None}
+use Rattle.std.specs.Prelude.{ℕ, nat_lt, ◌&&◌, Bool, true, false, if◌then◌else◌, Option, Some, None}
 use Rattle.std.specs.Option.{option_map_or}
-use Rattle.ledger.specs.Ledger.{Ledger}
 use Rattle.ledger.specs.Events.{Event, ledger_after}
 use Rattle.ledger.specs.Events as event
 use Rattle.ledger.specs.Units.{units}

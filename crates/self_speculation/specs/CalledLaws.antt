@@ -1,9 +1,6 @@
-use Rattle.std.proofs.Common.{◌≡◌, ℕ, Bool, true, false, cond, map, sym, ap, subst, ◌∙◌, refl, Option, Some, None}
+use Rattle.std.proofs.Common.{◌≡◌, ℕ, Bool, true, false, cond, map, ap, subst, ◌∙◌, refl, Option, Some, None}
 use Rattle.std.specs.Prelude.{◌&&◌, nat_lt}
-use Rattle.std.specs.Option.{option_map, option_map_or}
-use Rattle.std.specs.FinMap.{get}
 use Rattle.ledger.specs.Alike.{AreAlike}
-use Rattle.ledger.specs.Ledger.{Ledger}
 use Rattle.ledger.specs.Events.{ledger_after}
 use Rattle.ledger.specs.RowLaws.{alike_after}
 use Rattle.ledger.specs.AlikeUnits.{units_alike}
@@ -12,13 +9,12 @@ use Rattle.translation_cache.specs.Bare.{BareTranslations}
 use Rattle.ovl_io.specs.declared.turn.Turn.TheVariants as turn
 use Rattle.rv_execute.specs.Calls.{access_of}
 use Rattle.process_calls.specs.declared.calls.ProcessCall.{ProcessCall}
-use Rattle.process_calls.specs.declared.calls.ProcessCall.TheVariants.{Speculate, Commit, Discard}
-use Rattle.machine_core.specs.Process.{Process, Whole}
-use Rattle.machine_core.specs.Machine.{AreLike, Processes, Wholes, unit_limit}
-use Rattle.machine_core.specs.Turns.{AreLikeGuests, Guest, execution_of, guest_after, guest_at, guest_of, guest_refused, translations_executed, turn_in, with_guest}
+use Rattle.machine_core.specs.Process.{Process}
+use Rattle.machine_core.specs.Machine.{AreLike, Wholes, unit_limit}
+use Rattle.machine_core.specs.Turns.{AreLikeGuests, Guest, execution_of, guest_refused, translations_executed}
 use Rattle.machine_core.specs.Absent.{left_none, none_after}
 use Rattle.machine_core.specs.Laws.{after_both, at_both, like_after, like_refused, like_turn_in}
-use Rattle.self_speculation.specs.Called.{CallRow, after_by, after_called, call_of, called_in, called_turn, guest_called, row_after, row_by, row_does, row_is_full, row_needs, row_of, row_translations, row_turn, turn_by}
+use Rattle.self_speculation.specs.Called.{CallRow, after_by, after_called, call_of, called_in, called_turn, guest_called, row_after, row_does, row_is_full, row_needs, row_of, row_translations, row_turn, turn_by}
 
 -- Laws: alike states come to the same, and stay alike.
 

@@ -11,8 +11,8 @@ use Rattle.machine_core.specs.declared.process.Process as declared
 use Rattle.machine_core.specs.Machine.{Machine, Processes, spaces_of, wholes}
 use Rattle.machine_core.specs.Turns.{Guest, guest_of, guest_refused}
 use Rattle.machine_core.specs.PermsLaws.{HaveSamePerms, KeepsBase, LeavesPerms, after_same, kept_base, base_shown, leaves_perms, memory_shown, turn_leaves}
-use Rattle.self_speculation.specs.Called.{CallRow, after_by, after_called, call_of, guest_called, row_after, row_by, row_does, row_is_full, row_of}
-use Rattle.self_speculation.specs.Requests.{DoesCall, KeepsPerms, guest_at_request, whole_at}
+use Rattle.self_speculation.specs.Called.{CallRow, after_by, call_of, guest_called, row_after, row_by, row_does, row_is_full, row_of}
+use Rattle.self_speculation.specs.Requests.{DoesCall, KeepsPerms, guest_at_request}
 use Rattle.self_speculation.specs.Taken.{after_taken}
 
 -- Laws: turns of a process that may speculate by itself leave which pages it has, and their permissions; for what is kept has the same ones.

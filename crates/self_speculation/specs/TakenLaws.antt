@@ -10,9 +10,9 @@ use Rattle.rv_execute.specs.declared.outcome.Outcome.TheVariants as outcome
 use Rattle.process_calls.specs.declared.calls.ProcessCall.{ProcessCall}
 use Rattle.machine_core.specs.Process.{Process, runs}
 use Rattle.machine_core.specs.Machine.{AreLike, Wholes, is_running}
-use Rattle.machine_core.specs.Turns.{Guest, after_execution, after_turn, came_to, execution_of, guest_after, guest_of, guest_refused, guest_stepped, is_full, outcome_found, outcome_of, turn_in, turn_of, with_guest}
+use Rattle.machine_core.specs.Turns.{Guest, after_execution, after_turn, came_to, execution_of, guest_after, guest_of, guest_refused, guest_stepped, is_full, outcome_found, turn_in, turn_of, with_guest}
 use Rattle.machine_core.specs.Absent.{none_after_turn}
-use Rattle.machine_core.specs.Laws.{IsTurn, IsTurnOf, after_extension, like_after_turn, like_turn, turn_law}
+use Rattle.machine_core.specs.Laws.{IsTurn, after_extension, like_after_turn, like_turn, turn_law}
 use Rattle.self_speculation.specs.Called.{CallRow, after_by, after_called, call_by, call_of, called_in, called_turn, guest_called, row_does, row_is_full, row_of, turn_by}
 use Rattle.self_speculation.specs.CalledLaws.{like_after_called, like_called, none_after_called}
 use Rattle.self_speculation.specs.AskingLaws.{asked_by}

@@ -1,4 +1,3 @@
-use Rattle.machine_core.specs.Machine.{wholes}
 use Rattle.process_runs.specs.PlaceLaws.{free_stays, perms_stay, process_there}
 use Rattle.process_runs.proofs.Ports.{answer_port}
 use Rattle.process_runs.proofs.taking.answer_request.Goals as goal

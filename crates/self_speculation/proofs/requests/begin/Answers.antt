@@ -1,12 +1,11 @@
-use Rattle.std.proofs.Common.{ap, subst, sym, refl, ◌∙◌}
-use Rattle.std.specs.Prelude.{Ok, Err, Some, None}
+use Rattle.std.proofs.Common.{ap, subst, sym, ◌∙◌}
+use Rattle.std.specs.Prelude.{Ok, Some}
 use Rattle.overlay_memory.specs.View.{TranslatedView, translations_of}
 use Rattle.translation_cache.specs.Translations.{flushed}
 use Rattle.speculation.specs.Speculated.{Starts}
-use Rattle.rv_execute.specs.Registers.{Registers}
 use Rattle.ovl_io.specs.declared.turn.Turn.TheVariants.{Stepped}
 use Rattle.process_calls.specs.declared.calls.ProcessCall.TheVariants.{Speculate}
-use Rattle.machine_core.specs.Machine.{Machine, with_memory, with_process_at}
+use Rattle.machine_core.specs.Machine.{with_memory, with_process_at}
 use Rattle.self_speculation.specs.Requests.{DoesCall}
 use Rattle.self_speculation.proofs.Requesting.{started}
 use Rattle.self_speculation.proofs.requests.begin.Goals as goal

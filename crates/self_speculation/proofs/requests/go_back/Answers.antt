@@ -1,5 +1,5 @@
 use Rattle.std.proofs.Common.{ap, subst, sym, ◌∙◌}
-use Rattle.std.specs.Prelude.{Ok, Err}
+use Rattle.std.specs.Prelude.{Ok}
 use Rattle.overlay_memory.specs.View.{TranslatedView, translations_of}
 use Rattle.translation_cache.specs.Translations.{flushed}
 use Rattle.speculation.specs.Speculated.{Discards}

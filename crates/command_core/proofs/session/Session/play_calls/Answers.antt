@@ -1,4 +1,4 @@
-use Rattle.std.proofs.Common.{subst, sym, ap}
+use Rattle.std.proofs.Common.{subst}
 use Rattle.machine_core.specs.Machine.{AreLike, wholes}
 use Rattle.process_runs.specs.PlaceLaws.{stay_kept}
 use Rattle.process_runs.specs.Played.{AreOwnCalledTurns, run_over}
