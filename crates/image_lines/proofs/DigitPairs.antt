@@ -1,24 +1,15 @@
 use Rattle.std.proofs.Common.{◌≡◌, ℕ, ◌+◌, ◌*◌, ◌/◌, ◌%◌, ◌<◌, ◌≤◌, cond, Bool, Some, None, List, [], ◌∷◌, ◌++◌, length, drop, refl, sym, ap, ◌∙◌, inl, inr, ◌⊎◌, ◌-◌, arith, append_assoc, length-append}
-use Rattle.std.specs.Prelude.{codes, map, nat_lt, slice_index}
-use Rattle.std.specs.List.{AllByRecursion, range_with_len}
+use Rattle.std.specs.Prelude.{codes}
+use Rattle.std.specs.List.{AllByRecursion}
 use Rattle.std.proofs.lemmas.Bool.{cases_lt, le-ltb, lt-ltb}
 use Rattle.std.proofs.lemmas.List.{flat_map_more}
-use Rattle.std.proofs.lemmas.List.FromFn.{get_or-map-range_with_len}
-use Rattle.hex.specs.Hex.{encode_lower, encode_with, lower_digits}
+use Rattle.hex.specs.Hex.{encode_lower, encode_with}
 use Rattle.image_lines.specs.Digits.{byte_digits, bytes_digits, digit}
+use Rattle.image_lines.specs.DigitLaws.{digit_is}
 use Rattle.image_lines.specs.Lines.{IsByte, IsPiece, image_line}
 use Rattle.image_lines.specs.Reading.{Begins, HasNoByte, HaveBytes, IsByteOf, IsDigit, ReadsBytes, ReadsLine}
 
--- Digits: what each is as a character.
-
-abbrev written : ℕ → ℕ
-written d = cond (nat_lt d 10) (48 + d) (87 + d)
-
-table_is : lower_digits ≡ map written (range_with_len 0 16)
-table_is = refl
-
-digit_is : (d : ℕ) → d < 16 → digit d ≡ written d
-digit_is d lt = ap (λ ds. slice_index ds d) table_is ∙ get_or-map-range_with_len written 0 16 d d 0 lt (omega arith)
+-- Digits: where each lies among the characters.
 
 pub digit_low : (d : ℕ) → d < 10 → digit d ≡ 48 + d
 digit_low d lt = digit_is d (omega (arith, lt)) ∙ ap (λ (b : Bool). cond b (48 + d) (87 + d)) (lt-ltb d 10 lt)

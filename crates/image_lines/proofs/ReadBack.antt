@@ -1,11 +1,11 @@
-use Rattle.std.proofs.Common.{◌≡◌, ℕ, zero, suc, ◌+◌, ◌<◌, ◌≤◌, cond, List, [], ◌∷◌, ◌++◌, length, take, drop, refl, sym, ap, subst, ◌∙◌, inl, inr, ◌⊎◌, arith, append_assoc, length-append}
-use Rattle.std.specs.Prelude.{nat_le, Result, Ok, Err}
+use Rattle.std.proofs.Common.{◌≡◌, ℕ, zero, suc, ◌+◌, ◌<◌, ◌≤◌, List, [], ◌∷◌, ◌++◌, length, take, drop, refl, sym, ap, ◌∙◌, inl, inr, ◌⊎◌, arith, append_assoc, length-append}
+use Rattle.std.specs.Prelude.{Result, Ok, Err}
 use Rattle.std.specs.List.{AllByRecursion}
-use Rattle.std.proofs.lemmas.Bool.{cases_lt, le-leb, lt-leb}
 use Rattle.std.proofs.lemmas.List.{append-nil, length-drop, length-take-le, take-append-drop}
 use Rattle.image_lines.specs.declared.lines_error.LinesError.{LinesError}
 use Rattle.image_lines.specs.declared.lines_error.LinesError.TheVariants.{BadLine, Memory}
 use Rattle.image_lines.specs.Lines.{ArePieces, IsByte, IsPiece, IsWhole, bytes_of, image_line, lines_of, pieces_of, pieces_up_to, printed}
+use Rattle.image_lines.specs.PrintedLaws.{by_length}
 use Rattle.image_lines.specs.Reading.{GivesBack, IsFirstBad, ReadsLines}
 use Rattle.image_lines.proofs.LineRuns.{line_long, one_line}
 
@@ -26,15 +26,6 @@ all_drop (suc n) (x ∷ xs) all = all_drop n xs all.1
 more_pieces : (piece : List ℕ) (pieces : List (List ℕ)) → IsWhole piece → ArePieces pieces → ArePieces (piece ∷ pieces)
 more_pieces piece [] whole are = absurd are
 more_pieces piece (next ∷ more) whole are = (whole.0, whole.1, are)
-
--- by the test whether bytes are one piece
-by_length : (P : List (List ℕ) → Type 0) (bytes : List ℕ) (one more : List (List ℕ)) → (length bytes ≤ 64 → P one) → (64 < length bytes → P more)
-    → P (cond (nat_le (length bytes) 64) one more)
-by_length P bytes one more few many =
-    elim (cases_lt 64 (length bytes)) [
-      | inl lt ↦ subst (λ b. P (cond b one more)) (sym (lt-leb (length bytes) 64 lt)) (many lt)
-      | inr le ↦ subst (λ b. P (cond b one more)) (sym (le-leb (length bytes) 64 le)) (few le)
-    ]
 
 pieces_are : (n : ℕ) (bytes : List ℕ) → 0 < length bytes → length bytes ≤ 64 + n → AllByRecursion IsByte bytes → ArePieces (pieces_up_to n bytes)
 unfolding pieces_up_to

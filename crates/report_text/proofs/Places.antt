@@ -1,4 +1,5 @@
-use Rattle.std.proofs.Common.{◌≡◌, ℕ, zero, suc, ◌+◌, ◌-◌, ◌*◌, ◌/◌, ◌%◌, ◌^◌, ◌<◌, ◌==◌, Bool, false, cond, List, [], ◌∷◌, ◌++◌, map, sym, ap, ◌∙◌, subst, arith, append_assoc, append-nil, ◌≤◌, codes}
+use Rattle.std.proofs.lemmas.List.{drop-set, drop_all, flat_map_more, length-drop, length-set, take_all, take_more, take_more_set}
+use Rattle.std.proofs.Common.{◌≡◌, ℕ, length, flat_map, take, drop, slice_index, slice_set, zero, suc, ◌+◌, ◌-◌, ◌*◌, ◌/◌, ◌%◌, ◌^◌, ◌<◌, ◌==◌, Bool, false, cond, List, [], ◌∷◌, ◌++◌, map, sym, ap, ◌∙◌, subst, arith, append_assoc, append-nil, ◌≤◌, codes}
 use Rattle.std.proofs.Math.Nat.{pow-succ'}
 use Rattle.std.proofs.lemmas.List.{map-append}
 use Rattle.std.specs.Int.Digits.{digits_of}
@@ -11,6 +12,9 @@ use Rattle.std.specs.Fmt.{decimal, signed_decimal}
 use Rattle.std.proofs.lemmas.Fmt.{decimal_digit, decimal-digits_of}
 use Rattle.std.proofs.lemmas.Int.Digits.{digits_of_step}
 use Rattle.std.proofs.lemmas.Bool.Decides.{nat_tests}
+use Rattle.hex.specs.Hex.{encode_lower, encode_with, lower_digits}
+use Rattle.hex.proofs.Pairs.{encode_step, take-two_writes}
+use Rattle.image_lines.specs.DigitLaws.{digit_is}
 use Rattle.report_text.specs.Digits.{hex_digit, hex_places, in_decimal, signed_text}
 
 -- Numbers by their digits.
@@ -51,17 +55,73 @@ of_size (negsuc n) small =
 pub signed_is : (n : ℤ) → SFits w64 n → signed_decimal (to_z w64 (of_z w64 n)) ≡ signed_text n
 signed_is n fits = ap signed_decimal (to_z-of_z w64 n fits) ∙ of_size n fits.sfits
 
--- The places of a number are those of its sixteenth, and the last; and there is none.
-pub one_place_more : (old before new : List ℕ) (n digit places : ℕ) → 0 < places → before ≡ old ++ hex_places (places - 1) (n / 16)
-    → digit ≡ hex_digit (n % 16) → new ≡ before ++ digit ∷ [] → new ≡ old ++ hex_places places n
+-- One place fewer is left, and its digit stands before those so far; and where none is left they are all.
+pub one_place_more : (n rest places i digit : ℕ) (digits : List ℕ) → i < places → places ≤ 16 → length digits ≡ 16 → digit ≡ hex_digit (rest % 16)
+    → hex_places (places - i) rest ++ drop (16 - i) digits ≡ hex_places places n
+    → hex_places (places - (i + 1)) (rest / 16) ++ drop (16 - (i + 1)) (slice_set digits (15 - i) digit) ≡ hex_places places n
 unfolding hex_places
-one_place_more old before new n digit zero some so_far last pushed = absurd (omega (arith, some))
-one_place_more old before new n digit (suc k) some so_far last pushed =
-    let less : suc k - 1 ≡ k = omega arith in
-    pushed ∙ ap (λ d. before ++ d ∷ []) last ∙ ap (λ ds. ds ++ hex_digit (n % 16) ∷ []) (so_far ∙ ap (λ m. old ++ hex_places m (n / 16)) less)
-    ∙ append_assoc old (hex_places k (n / 16)) (hex_digit (n % 16) ∷ [])
+one_place_more n rest places i digit digits left few room last so_far =
+    let front = hex_places (places - (i + 1)) (rest / 16) in
+    let behind = drop (16 - i) digits in
+    let one : places - i ≡ suc (places - (i + 1)) = omega (arith, left) in
+    let here : 16 - (i + 1) ≡ 15 - i = omega arith in
+    let next : 15 - i + 1 ≡ 16 - i = omega (arith, left, few) in
+    ap (λ m. front ++ drop m (slice_set digits (15 - i) digit)) here
+    ∙ ap (λ ds. front ++ ds) (drop-set digits (15 - i) digit (omega (arith, room)) ∙ ap (λ m. digit ∷ drop m digits) next ∙ ap (λ d. d ∷ behind) last)
+    ∙ sym (append_assoc front (hex_digit (rest % 16) ∷ []) behind) ∙ ap (λ m. hex_places m rest ++ behind) (sym one) ∙ so_far
 
-pub no_place : (old : List ℕ) (n places : ℕ) → places ≤ 0 → old ≡ old ++ hex_places places n
+pub no_place_left : (n rest places i : ℕ) (digits : List ℕ) → i ≤ places → places ≤ i → places ≤ 16 → length digits ≡ 16
+    → hex_places (places - i) rest ++ drop (16 - i) digits ≡ hex_places places n
+    → take (16 - (16 - places)) (drop (16 - places) digits) ≡ hex_places places n
 unfolding hex_places
-no_place old n zero none = sym (append-nil old)
-no_place old n (suc k) none = absurd (omega (arith, none))
+no_place_left n rest places i digits less more few room so_far =
+    let none : places - i ≡ 0 = omega (arith, more) in
+    let all : 16 - places ≡ 16 - i = omega (arith, less, more) in
+    take_all (16 - (16 - places)) (drop (16 - places) digits) (omega (arith, length-drop (16 - places) digits, room))
+    ∙ ap (λ m. drop m digits) all ∙ ap (λ m. hex_places m rest ++ drop (16 - i) digits) (sym none) ∙ so_far
+
+-- A blank and the digits of a byte are put behind those so far.
+dumped : ℕ → List ℕ
+dumped b = codes " " ++ hex_places 2 b
+
+dumped_is : (b : ℕ) → b < 256 → dumped b ≡ 32 ∷ hex_digit (b / 16) ∷ hex_digit (b % 16) ∷ []
+unfolding dumped hex_places
+dumped_is b small = let same : b / 16 % 16 ≡ b / 16 = omega (arith, small) in ap (λ d. 32 ∷ hex_digit d ∷ hex_digit (b % 16) ∷ []) same
+
+pub one_dumped_more : (bytes text : List ℕ) (i high low : ℕ) → i < length bytes → 3 * i + 2 < length text → slice_index bytes i < 256
+    → high ≡ hex_digit (slice_index bytes i / 16) → low ≡ hex_digit (slice_index bytes i % 16)
+    → take (3 * i) text ≡ flat_map (λ b. codes " " ++ hex_places 2 b) (take i bytes)
+    → take (3 * (i + 1)) (slice_set (slice_set (slice_set text (3 * i) 32) (3 * i + 1) high) (3 * i + 2) low)
+    ≡ flat_map (λ b. codes " " ++ hex_places 2 b) (take (i + 1) bytes)
+unfolding dumped
+one_dumped_more bytes text i high low below fits small at_high at_low so_far =
+    let b = slice_index bytes i in
+    let first = slice_set text (3 * i) 32 in
+    let three : 3 * (i + 1) ≡ 3 * i + 1 + 2 = omega arith in
+    let last : 3 * i + 2 ≡ 3 * i + 1 + 1 = omega arith in
+    ap (λ m. take m (slice_set (slice_set first (3 * i + 1) high) (3 * i + 2) low)) three
+    ∙ ap (λ m. take (3 * i + 1 + 2) (slice_set (slice_set first (3 * i + 1) high) m low)) last
+    ∙ take-two_writes first (3 * i + 1) high low (omega (arith, length-set text (3 * i) 32, fits))
+    ∙ ap (λ t. t ++ high ∷ low ∷ []) (take_more_set text (3 * i) 32 (omega (arith, fits)))
+    ∙ append_assoc (take (3 * i) text) (32 ∷ []) (high ∷ low ∷ [])
+    ∙ ap (λ d. take (3 * i) text ++ 32 ∷ d ∷ low ∷ []) at_high ∙ ap (λ d. take (3 * i) text ++ 32 ∷ hex_digit (b / 16) ∷ d ∷ []) at_low
+    ∙ ap (λ t. t ++ 32 ∷ hex_digit (b / 16) ∷ hex_digit (b % 16) ∷ []) so_far
+    ∙ ap (λ ds. flat_map dumped (take i bytes) ++ ds) (sym (dumped_is b small))
+    ∙ flat_map_more dumped [] (take i bytes) b ∙ sym (ap (flat_map dumped) (take_more bytes i 0 below))
+
+-- The digits of a byte more are put behind those so far; and of all bytes they are the hexadecimal text of the kit.
+pub one_byte_more : (bytes digits : List ℕ) (i high low : ℕ) → i < length bytes → 2 * i + 1 < length digits → slice_index bytes i < 256
+    → high ≡ hex_digit (slice_index bytes i / 16) → low ≡ hex_digit (slice_index bytes i % 16)
+    → take (2 * i) digits ++ encode_lower (drop i bytes) ≡ encode_lower bytes
+    → take (2 * (i + 1)) (slice_set (slice_set digits (2 * i) high) (2 * i + 1) low) ++ encode_lower (drop (i + 1) bytes) ≡ encode_lower bytes
+one_byte_more bytes digits i high low below fits small at_high at_low so_far =
+    encode_step lower_digits bytes digits i high low below fits (at_high ∙ sym (digit_is (slice_index bytes i / 16) (omega (arith, small))))
+    (at_low ∙ sym (digit_is (slice_index bytes i % 16) (omega arith))) so_far
+
+pub no_byte_left : (bytes digits : List ℕ) (i : ℕ) → i ≤ length bytes → length bytes ≤ i → take (2 * i) digits ++ encode_lower (drop i bytes) ≡ encode_lower bytes
+    → take (2 * length bytes) digits ≡ encode_lower bytes
+unfolding encode_with
+no_byte_left bytes digits i few all so_far =
+    let at : length bytes ≡ i = omega (arith, few, all) in
+    sym (append-nil (take (2 * length bytes) digits)) ∙ ap (λ n. take (2 * n) digits ++ []) at
+    ∙ ap (λ ds. take (2 * i) digits ++ encode_lower ds) (sym (drop_all i bytes all)) ∙ so_far

@@ -1,4 +1,4 @@
-use Rattle.std.specs.Prelude.{◌≡◌, ℕ, ◌==◌, ◌&&◌, ◌||◌, Bool, true, false, List, [], ◌∷◌, ◌++◌, flat_map, codes, refl, if◌then◌else◌}
+use Rattle.std.specs.Prelude.{◌≡◌, ℕ, ◌==◌, ◌&&◌, ◌||◌, Bool, true, false, List, [], ◌∷◌, ◌++◌, flat_map, length, codes, refl, if◌then◌else◌}
 use Rattle.std.proofs.Common.{sym, ap, ◌∙◌}
 use Rattle.ovl_io.specs.declared.process_state.ProcessState.{ProcessState}
 use Rattle.ovl_io.specs.declared.turn.Turn.{Turn}
@@ -9,11 +9,13 @@ use Rattle.report_text.specs.declared.answer.Stop.{Stop}
 use Rattle.report_text.specs.declared.answer.Stop.TheVariants as stop
 use Rattle.rv_decode.specs.declared.names.Name.{Name}
 use Rattle.rv_decode.specs.Table.{is_base}
+use Rattle.hex.specs.Hex.{encode_lower}
+use Rattle.image_lines.specs.Lines.{image_line, lines_of, pieces_of, printed}
 use Rattle.report_text.specs.Digits.{in_decimal, address_text, hex_places, word_text}
 use Rattle.report_text.specs.Names.{kind_text, code_text, stop_word}
 use Rattle.report_text.specs.Texts.{byte_text, state_text, pages_text}
 use Rattle.report_text.specs.Instructions.{instruction_text}
-use Rattle.report_text.specs.Lines.{ran_line, list_line, process_line, checkpoint_line, stats_line, regs_line, register_line, dump_line, disasm_line, disasm_line_by}
+use Rattle.report_text.specs.Lines.{ran_line, list_line, process_line, checkpoint_line, stats_line, exported_line, exported_text, regs_line, register_line, dump_line, disasm_line, disasm_line_by}
 use Rattle.report_text.specs.Answers.{answer_text, turn_text, stop_text}
 
 -- Whether a line of a report begins with the word `full`, as those do that say that there weren't units enough.
@@ -102,6 +104,13 @@ ends_stats units limit lines hits misses =
     line (codes "units " ++ in_decimal units ++ codes " of " ++ in_decimal limit ++ codes " lines " ++ in_decimal lines ++ codes " hits " ++ in_decimal hits
     ++ codes " misses " ++ in_decimal misses)
 
+pub ends_exported : (name base : List ℕ) (bytes : ℕ) → EndsLine (exported_line name base bytes)
+ends_exported name base bytes = line (codes "exported " ++ name ++ codes " " ++ base ++ codes " " ++ in_decimal bytes)
+
+pub ends_image : (bytes : List ℕ) → EndsLine (image_line bytes)
+unfolding image_line
+ends_image bytes = line (codes "image " ++ encode_lower bytes)
+
 pub ends_regs : (p : ℕ) (state : ProcessState) (speculating : Bool) → EndsLine (regs_line p state speculating)
 ends_regs p state speculating = line (codes "regs " ++ in_decimal p ++ codes " " ++ state_text state speculating)
 
@@ -116,6 +125,16 @@ ends_disasm_by has at word = line (word_text at ++ codes " " ++ hex_places 8 wor
 
 pub ends_disasm : (at word : ℕ) → EndsLine (disasm_line at word)
 ends_disasm = ends_disasm_by is_base
+
+-- What an export prints are whole lines.
+
+image_lines : (pieces : List (List ℕ)) → AreWholeLines (lines_of pieces)
+image_lines [] = no_lines
+image_lines (piece ∷ pieces) = lines_both (image_line piece) (lines_of pieces) (ends_image piece true) (image_lines pieces)
+
+pub exported_lines : (name base image : List ℕ) → AreWholeLines (exported_text name base image)
+exported_lines name base image =
+    lines_both (exported_line name base (length image)) (printed image) (ends_exported name base (length image) true) (image_lines (pieces_of image))
 
 -- Texts of answers, turns and endings are whole lines, or none.
 

@@ -1,6 +1,7 @@
-use Rattle.std.specs.Prelude.{ℕ, ◌==◌, Bool, List, ◌++◌, flat_map, codes, if◌then◌else◌}
+use Rattle.std.specs.Prelude.{ℕ, ◌==◌, Bool, List, ◌++◌, flat_map, length, codes, if◌then◌else◌}
 use Rattle.ovl_io.specs.declared.process_state.ProcessState.{ProcessState}
 use Rattle.report_text.specs.declared.answer.Stop.{Stop}
+use Rattle.image_lines.specs.Lines.{printed}
 use Rattle.rv_decode.specs.declared.names.Name.{Name}
 use Rattle.rv_decode.specs.Table.{is_base}
 use Rattle.report_text.specs.Digits.{in_decimal, hex_places, word_text}
@@ -37,6 +38,14 @@ abbrev pub stats_line : ℕ → ℕ → ℕ → ℕ → ℕ → List ℕ
 stats_line units limit lines hits misses =
     codes "units " ++ in_decimal units ++ codes " of " ++ in_decimal limit ++ codes " lines " ++ in_decimal lines ++ codes " hits " ++ in_decimal hits
     ++ codes " misses " ++ in_decimal misses ++ codes "\n"
+
+-- the first line of an image: whose it is, over which other checkpoint's, and how many bytes it has; and that with the lines of its bytes,
+-- which image_lines defines and reads
+abbrev pub exported_line : List ℕ → List ℕ → ℕ → List ℕ
+exported_line name base bytes = codes "exported " ++ name ++ codes " " ++ base ++ codes " " ++ in_decimal bytes ++ codes "\n"
+
+abbrev pub exported_text : List ℕ → List ℕ → List ℕ → List ℕ
+exported_text name base image = exported_line name base (length image) ++ printed image
 
 -- the first line of a process's registers: its state
 abbrev pub regs_line : ℕ → ProcessState → Bool → List ℕ

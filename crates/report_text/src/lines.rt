@@ -1,7 +1,9 @@
 ghost use Rattle.std.specs.Prelude.{◌≡◌, ◌+◌, ◌*◌, ◌==◌, ◌||◌, ◌≤◌, ◌++◌, codes, length, IsTrue, if◌then◌else◌};
 ghost use Rattle.arrayvec.specs.ArrayVec.{array_vec_len};
 ghost use Rattle.report_text.specs.Digits.{address_text, in_decimal};
-ghost use Rattle.report_text.specs.Lines.{bad_line, ran_line, list_line, process_line, checkpoint_line, stats_line, regs_line, register_line, dump_line, disasm_line_by};
+ghost use Rattle.report_text.specs.Lines.{bad_line, ran_line, list_line, process_line, checkpoint_line, stats_line, exported_line, regs_line, register_line, dump_line, disasm_line_by};
+ghost use Rattle.sizes.specs.declared.TheConstants.{LINE_BYTES};
+ghost use Rattle.image_lines.specs.Lines.{image_line};
 ghost use Rattle.report_text.specs.declared.answer.Answer.TheVariants as answer;
 ghost use Rattle.ovl_io.specs.declared.turn.Turn.TheVariants as turn;
 ghost use Rattle.report_text.specs.Answers.{IsCheckpointName, HasCodeLine, answer_text, turn_text};
@@ -9,7 +11,8 @@ ghost use Rattle.report_text.specs.Answers.{IsCheckpointName, HasCodeLine, answe
 use crate::instructions::push_instruction;
 use crate::names::{kind_text, port_text, push_code, push_pages, push_state, stop_word};
 use crate::push::{
-    push_address, push_bytes, push_decimal, push_dumped, push_places, push_text, push_word,
+    push_address, push_bytes, push_decimal, push_dumped, push_hex, push_places, push_text,
+    push_word,
 };
 use crate::{Code, LINE_ROOM, Line, ROW_BYTES, Stop};
 use ovl_io::{FaultKind, ProcessState};
@@ -254,6 +257,36 @@ pub(crate) fn put_stats(line: &mut Line, units: u32, limit: u32, lines: u32, hit
     push_decimal(line, hits);
     push_text(line, b" misses ");
     push_decimal(line, misses);
+    push_text(line, b"\n");
+}
+
+/// The first line of an image.
+pub(crate) fn put_exported(line: &mut Line, name: &[u8], base: &[u8], length: u32)
+    requires room { array_vec_len line.old + 256 ≤ LINE_ROOM }
+    requires named { IsCheckpointName name.now }
+    requires based { IsCheckpointName base.now }
+    ensures text { line.new.items ≡ line.old.items ++ exported_line name.now base.now length }
+    ensures len { array_vec_len line.new ≤ array_vec_len line.old + 256 }
+{
+    push_text(line, b"exported ");
+    push_text(line, name);
+    push_text(line, b" ");
+    push_text(line, base);
+    push_text(line, b" ");
+    push_decimal(line, u64::from(length));
+    push_text(line, b"\n");
+}
+
+/// Bytes of an image.
+#[tactic(auto, unfolding(image_lines::specs::Lines::image_line))]
+pub(crate) fn put_image(line: &mut Line, bytes: &[u8])
+    requires room { array_vec_len line.old + 256 ≤ LINE_ROOM }
+    requires few { length bytes.now ≤ LINE_BYTES }
+    ensures text { line.new.items ≡ line.old.items ++ image_line bytes.now }
+    ensures len { array_vec_len line.new ≤ array_vec_len line.old + 256 }
+{
+    push_text(line, b"image ");
+    push_hex(line, bytes);
     push_text(line, b"\n");
 }
 

@@ -1,12 +1,17 @@
 ghost use Rattle.std.specs.Prelude.{◌≡◌, ◌+◌, ◌*◌, ◌^◌, ◌<◌, ◌≤◌, ◌++◌, length, map, flat_map, codes};
 ghost use Rattle.std.specs.Int.Digits.{digits_of};
 ghost use Rattle.arrayvec.specs.ArrayVec.{array_vec_len};
+ghost use Rattle.hex.specs.Hex.{encode_lower};
 ghost use Rattle.report_text.specs.Digits.{hex_digit, hex_places, in_decimal, signed_text, address_text, word_text};
 ghost use Rattle.report_text.specs.Texts.{is_plain, byte_text};
 
-use crate::LINE_ROOM;
+use crate::{LINE_ROOM, ROW_BYTES};
 use arrayvec::ArrayVec;
 use itoa::Buffer;
+use sizes::LINE_BYTES;
+
+/// The hexadecimal digits of a word of 64 bits.
+const WORD_DIGITS: usize = 16;
 
 /// A line of the report, with its end; two lines at a breakpoint.
 pub type Line = ArrayVec<u8, LINE_ROOM>;
@@ -74,16 +79,21 @@ pub(crate) fn push_address(line: &mut Line, address: u64)
     }
 }
 
-/// The last so many hexadecimal digits of a number, with leading zeros.
+/// The last so many hexadecimal digits of a number, at most 16, with leading zeros.
 pub(crate) fn push_places(line: &mut Line, n: u64, places: u32)
+    requires few { places ≤ WORD_DIGITS }
     requires room { array_vec_len line.old + places ≤ LINE_ROOM }
     ensures text { line.new.items ≡ line.old.items ++ hex_places places n }
     ensures len { array_vec_len line.new ≡ array_vec_len line.old + places }
 {
-    if places > 0 {
-        push_places(line, n / 16, places - 1);
-        line.push(hex_digit((n % 16) as u8));
+    let count = places as usize;
+    let mut digits = [0u8; WORD_DIGITS];
+    let mut rest = n;
+    'places: for i in 0..count {
+        digits[WORD_DIGITS - 1 - i] = hex_digit((rest % 16) as u8);
+        rest /= 16;
     }
+    push_text(line, &digits[WORD_DIGITS - count..]);
 }
 
 /// A word of 64 bits in 16 hexadecimal digits.
@@ -92,19 +102,40 @@ pub(crate) fn push_word(line: &mut Line, n: u64)
     ensures text { line.new.items ≡ line.old.items ++ word_text n }
     ensures len { array_vec_len line.new ≤ array_vec_len line.old + 16 }
 {
-    push_places(line, n, 16);
+    push_places(line, n, WORD_DIGITS as u32);
 }
 
-/// Bytes of memory, for each a blank and its two hexadecimal digits.
+/// Bytes of memory, at most 16, for each a blank and its two hexadecimal digits.
 pub(crate) fn push_dumped(line: &mut Line, bytes: &[u8])
-    requires { array_vec_len line.old + 3 * length bytes.now ≤ LINE_ROOM }
+    requires row { length bytes.now ≤ ROW_BYTES }
+    requires room { array_vec_len line.old + 3 * ROW_BYTES ≤ LINE_ROOM }
     ensures text { line.new.items ≡ line.old.items ++ flat_map (λ b. codes " " ++ hex_places 2 b) bytes.now }
-    ensures len { array_vec_len line.new ≤ array_vec_len line.old + 3 * length bytes.now }
+    ensures len { array_vec_len line.new ≤ array_vec_len line.old + 3 * ROW_BYTES }
 {
-    for b in bytes {
-        push_text(line, b" ");
-        push_places(line, u64::from(*b), 2);
+    let mut text = [0u8; 3 * ROW_BYTES];
+    'bytes: for i in 0..bytes.len() {
+        text[3 * i] = b' ';
+        text[3 * i + 1] = hex_digit(bytes[i] / 16);
+        text[3 * i + 2] = hex_digit(bytes[i] % 16);
     }
+    push_text(line, &text[..3 * bytes.len()]);
+}
+
+/// At most 64 bytes in hexadecimal digits, two a byte. Here and above digits are put together in a piece of
+/// memory of their own, a loop over which is short code, and of many bytes vector code, and then put into the
+/// line at once.
+pub(crate) fn push_hex(line: &mut Line, bytes: &[u8])
+    requires few { length bytes.now ≤ LINE_BYTES }
+    requires room { array_vec_len line.old + 2 * LINE_BYTES ≤ LINE_ROOM }
+    ensures text { line.new.items ≡ line.old.items ++ encode_lower bytes.now }
+    ensures len { array_vec_len line.new ≤ array_vec_len line.old + 2 * LINE_BYTES }
+{
+    let mut digits = [0u8; 2 * LINE_BYTES];
+    'bytes: for i in 0..bytes.len() {
+        digits[2 * i] = hex_digit(bytes[i] / 16);
+        digits[2 * i + 1] = hex_digit(bytes[i] % 16);
+    }
+    push_text(line, &digits[..2 * bytes.len()]);
 }
 
 /// Whether a byte stands for itself in a text.

@@ -1,12 +1,14 @@
 ghost use Rattle.std.specs.Prelude.{◌≡◌, ◌<◌, ◌≤◌, length};
-ghost use Rattle.report_text.specs.Lines.{bad_line, list_line, process_line, checkpoint_line, stats_line, regs_line, register_line, dump_line, disasm_line, disasm_line_by};
+ghost use Rattle.report_text.specs.Lines.{bad_line, list_line, process_line, checkpoint_line, stats_line, exported_line, regs_line, register_line, dump_line, disasm_line, disasm_line_by};
+ghost use Rattle.sizes.specs.declared.TheConstants.{LINE_BYTES};
+ghost use Rattle.image_lines.specs.Lines.{image_line};
 ghost use Rattle.rv_mul.specs.Tables.{is_any};
 ghost use Rattle.report_text.specs.Answers.{HasAnswerLine, HasPort, IsCheckpointName, answer_text, turn_text, has_turn_line, stop_text};
 
 use crate::lines::{
-    put_bad, put_break, put_checkpoint, put_disasm, put_dump, put_exited, put_faulted, put_forked,
-    put_full, put_full_turn, put_list, put_loaded, put_process, put_ran, put_refused, put_register,
-    put_regs, put_saved, put_shared, put_stats, put_wrote,
+    put_bad, put_break, put_checkpoint, put_disasm, put_dump, put_exited, put_exported,
+    put_faulted, put_forked, put_full, put_full_turn, put_image, put_list, put_loaded, put_process,
+    put_ran, put_refused, put_register, put_regs, put_saved, put_shared, put_stats, put_wrote,
 };
 use crate::push::push_text;
 use crate::{Answer, Line, ROW_BYTES, Stop};
@@ -102,6 +104,26 @@ pub fn stats_line(units: u32, limit: u32, lines: u32, hits: u64, misses: u64, ou
 {
     out.clear();
     put_stats(out, units, limit, lines, hits, misses);
+}
+
+/// The first line of an image: whose it is, over which other checkpoint's, and how many bytes it has. Names
+/// have 1 to 32 bytes.
+pub fn exported_line(name: &Bytes, base: &Bytes, length: u32, out: &mut Line)
+    requires named { IsCheckpointName name.now }
+    requires based { IsCheckpointName base.now }
+    ensures { out.new.items ≡ exported_line name.now base.now length }
+{
+    out.clear();
+    put_exported(out, name.as_slice(), base.as_slice(), length);
+}
+
+/// Bytes of an image, 64 but on its last line, which may have fewer: a line as a file of an image has it.
+pub fn image_line(bytes: &[u8], out: &mut Line)
+    requires { length bytes.now ≤ LINE_BYTES }
+    ensures { out.new.items ≡ image_line bytes.now }
+{
+    out.clear();
+    put_image(out, bytes);
 }
 
 /// The first line of a process's registers: its state.

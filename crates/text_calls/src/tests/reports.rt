@@ -3,8 +3,10 @@ use elf_loader::ElfError;
 use ovl_io::{Bytes, FaultKind, ProcessState, Turn, Written};
 use report_text::{
     Answer, Code, LINE_ROOM, Line, ROW_BYTES, Stop, answer_line, bad_line, checkpoint_line,
-    dump_line, list_line, process_line, stats_line, stop_line, turn_line,
+    dump_line, exported_line, image_line, list_line, process_line, stats_line, stop_line,
+    turn_line,
 };
+use sizes::LINE_BYTES;
 use std::test::Fail;
 
 #[test]
@@ -140,6 +142,36 @@ fn endings_lists_and_counts_are_printed(rt: HostRuntime) -> Result<(), Fail> {
         out.as_slice() == b"units 36 of 48 lines 8 hits 0 misses 18446744073709551615\n".as_slice()
     );
     assert!(rt; LINE_ROOM == 16384);
+    Ok(())
+}
+
+#[test]
+fn images_are_printed(rt: HostRuntime) -> Result<(), Fail> {
+    let mut out = Line::new();
+    let name = Bytes::new(Vec::from_slice(rt.alloc(), b"b")?);
+    let base = Bytes::new(Vec::from_slice(rt.alloc(), b"base-0")?);
+    exported_line(&name, &base, 4194304, &mut out);
+    assert!(rt; out.as_slice() == b"exported b base-0 4194304\n".as_slice());
+    let rows: [(&[u8], &[u8]); 3] = [
+        (b"\0", b"image 00\n"),
+        (
+            b"OVL1\x9a\xff\x0b\xc0\x17\x28\x3d\xe6",
+            b"image 4f564c319aff0bc017283de6\n",
+        ),
+        (
+            b"hi\n\xff\x80\x0f\xf0\x9a ~\x7f\x01\x02\x03\x04\xab",
+            b"image 68690aff800ff09a207e7f01020304ab\n",
+        ),
+    ];
+    for (bytes, want) in &rows {
+        assert!(rt; bytes.len() <= LINE_BYTES);
+        image_line(bytes, &mut out);
+        assert!(rt; out.as_slice() == *want);
+    }
+    // as many as a line has
+    image_line(&[0x5E; LINE_BYTES], &mut out);
+    assert!(rt; out.len() == 135);
+    assert!(rt; out.as_slice().ends_with(b"5e5e\n"));
     Ok(())
 }
 

@@ -1,11 +1,11 @@
-use Rattle.std.proofs.Common.{◌≡◌, ◌+◌, ◌*◌, ◌≤◌, ◌++◌, take, flat_map, codes}
-use Rattle.arrayvec.specs.ArrayVec.{array_vec_len}
+use Rattle.std.proofs.Common.{◌≡◌, ◌*◌, ◌++◌, length, take, flat_map, codes}
+use Rattle.report_text.specs.declared.TheConstants.{ROW_BYTES}
 use Rattle.report_text.specs.Digits.{hex_places}
 use Rattle.report_text.proofs.push.push_dumped.Given as goal
 
 -- the bytes so far
-abbrev pub invariant-loop-b : goal.invariant-loop-b
-invariant-loop-b l = record {
-  text : l.line.items ≡ l.initial.line.items ++ flat_map (λ b. codes " " ++ hex_places 2 b) (take l.b-index l.bytes);
-  len : array_vec_len l.line ≤ array_vec_len l.initial.line + 3 * l.b-index;
+abbrev pub invariant-bytes : goal.invariant-bytes
+invariant-bytes l = record {
+  text : take (3 * l.i) l.text ≡ flat_map (λ b. codes " " ++ hex_places 2 b) (take l.i l.bytes);
+  room : length l.text ≡ 3 * ROW_BYTES;
 }
