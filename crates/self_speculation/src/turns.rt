@@ -14,6 +14,8 @@ use rv_execute::Outcome;
 
 /// Does what a running process, whose space is there, asked for by ECALL, and answers what came of it. A process that may speculate by itself
 /// (`calls`) may ask for that; all else is what the machine does for every process. The ECALL was fetched and counted. Takes no memory.
+/// It stands apart, since a turn has room for all that a process may write.
+#[inline(never)]
 pub fn answer(machine: &mut Machine, p: u16, calls: bool) -> Turn
     requires runs { is_running (wholes machine.old) p ≡ true }
     requires there { has_space machine.old p ≡ true }
