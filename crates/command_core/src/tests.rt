@@ -285,37 +285,3 @@ fn a_process_is_looked_up(rt: HostRuntime) -> Result<(), Fail> {
     assert_eq!(rt; session.next_process(2), None);
     Ok(())
 }
-
-// Speculates, and where it goes on from a discard ends with 1 in a0; stores into its stack and discards.
-const TRIES: &[u32] = &[
-    0x4010_0893,
-    0x0000_0073,
-    0x0005_1863,
-    0x4030_0893,
-    0x0111_0023,
-    0x0000_0073,
-    0x05D0_0893,
-    0x0000_0073,
-];
-
-#[test]
-fn turns_by_a_list_may_speculate(rt: HostRuntime) -> Result<(), Fail> {
-    let file = file_of(rt.alloc(), TRIES)?;
-    let mut session = Session::new(rt.alloc(), 1024, 100)?;
-    assert!(rt;
-        matches!(
-            session.load(file.as_slice()),
-            Answer::Loaded(1, 17, 0x10078)
-        )
-    );
-    session.play_calls(&[1, 2, 1, 1, 1, 1]);
-    let process = session.look_process(1).map_err(|_| "no process")?;
-    assert_eq!(rt; (process.regs.pc(), process.speculating), (0x1008C, true));
-    session.play_calls(&[1, 1]);
-    let process = session.look_process(1).map_err(|_| "no process")?;
-    assert_eq!(rt; (process.regs.get(10), process.speculating), (1, false));
-    session.play_calls(&[1, 1, 1]);
-    let process = session.look_process(1).map_err(|_| "no process")?;
-    assert_eq!(rt; process.state, ProcessState::Exited(1));
-    Ok(())
-}
