@@ -9,8 +9,11 @@
 # one a line, where there is one. Or it is a folder with a file NAME.words and a file NAME.report for each of its runs: the program gets
 # these words, and nothing on standard input.
 #
+# Where a folder has a file `second.script` too, with a report `second.report`, that is run behind the first, with the images that the first
+# printed: each `export NAME BASE` gives a file NAME-BASE.img of its lines. Where the folder has such a file, it has to be the same.
+#
 # A built program has its own number of instructions. So the reports of rebuilt ones are compared without T of `ran T ended`, `ran T idle`
-# and `ran T break`, and without the hits and misses of `stats`; all else has to be the same. They are built in a folder of their own, at
+# and `ran T break`, without the hits and misses of `stats`, and without what an image has; all else has to be the same. They are built in a folder of their own, at
 # -O0, -O1 and -O2. The program of `debugger` isn't: its script goes with the stored file.
 #
 # Where Python is there, the tools are tried too: each script is checked, and what the calls of tools/tried print is compared with what
@@ -41,9 +44,10 @@ fi
 passed=0
 failed=0
 
-# The counts of turns and of look-ups are left out of a report.
+# The counts of turns and of look-ups are left out of a report, and what an image has.
 without_counts() {
-    sed -e 's/^ran [0-9]* \(ended\|idle\|break\)$/ran T \1/' -e 's/ hits [0-9]* misses [0-9]*$/ hits H misses M/'
+    sed -e 's/^ran [0-9]* \(ended\|idle\|break\)$/ran T \1/' -e 's/ hits [0-9]* misses [0-9]*$/ hits H misses M/' \
+        -e 's/^\(exported .*\) [0-9]*$/\1 LEN/' -e '/^image /d'
 }
 
 # Counts a run: its name, the file of the report that is expected, and the report that was given, with an x behind it.
@@ -55,7 +59,7 @@ count() {
     fi
     failed=$((failed + 1))
     if [ "$(printf '%s' "$3" | without_counts)" = "$({ cat "$2" && echo x; } | without_counts)" ]; then
-        echo "$1: differs in counts of turns or look-ups alone, as a rebuilt program does: see --rebuilt"
+        echo "$1: differs in counts of turns or look-ups or in an image alone, as a rebuilt program does: see --rebuilt"
     else
         echo "$1: differs"
     fi
@@ -74,9 +78,29 @@ count_rebuilt() {
 # Where the answers of the exercises were taken away, the examples alone are run.
 [ -d "$top/lab/answers" ] || echo "no lab/answers here: the exercises aren't run"
 
-# Runs the script of a folder, with its words. A word has no blank in it and no pattern, so it may stand without quotes.
+# Runs the script of a folder, or a further one of it, with its words. A word has no blank in it and no pattern, so it may stand without
+# quotes.
 run_script() {
-    (cd "$1" && "$program" $([ ! -f words ] || cat words) < script)
+    (cd "$1" && "$program" $([ ! -f words ] || cat words) < "${2:-script}")
+}
+
+# Puts the images that a report has into a folder, each into a file of its own. The report has an x behind it.
+put_images() {
+    printf '%s' "${2%x}" | (cd "$1" && awk '/^exported / { file = $2 "-" $3 ".img" } /^image / { print > file }')
+}
+
+# Counts the second run of a folder, in a copy of it with the images that the first run printed.
+count_second() {
+    copy=$(mktemp -d)
+    cp -R "$1/." "$copy"
+    rm -f "$copy"/*.img
+    put_images "$copy" "$2"
+    for image in "$1"/*.img; do
+        [ ! -f "$image" ] || count "${image#"$top"/}" "$image" "$(cat "$copy/${image##*/}" 2>/dev/null && echo x)"
+    done
+    given=$(run_script "$copy" second.script && echo x)
+    count "${1#"$top"/}, the second run" "$1/second.report" "$given"
+    rm -rf "$copy"
 }
 
 for script in "$here"/*/script "$top"/lab/answers/*/script; do
@@ -84,6 +108,7 @@ for script in "$here"/*/script "$top"/lab/answers/*/script; do
     folder=$(dirname "$script")
     given=$(run_script "$folder" && echo x)
     count "${folder#"$top"/}" "$folder/report" "$given"
+    [ ! -f "$folder/second.script" ] || count_second "$folder" "$given"
 done
 
 for words in "$here"/*/*.words; do
@@ -107,7 +132,7 @@ count_tool() {
 }
 
 if "$top/tools/with-python" -c '' 2>/dev/null; then
-    set -- "$here"/*/script
+    set -- "$here"/*/script "$here"/*/second.script
     [ -d "$top/lab/answers" ] && set -- "$@" "$top"/lab/answers/*/script
     if "$top/tools/check-script" "$@"; then
         passed=$((passed + 1))
@@ -152,6 +177,10 @@ rebuild() {
         [ "$name" = examples/debugger ] && continue
         given=$(run_script "$folder" && echo x)
         count_rebuilt "$name, $compiler $level" "$folder/report" "$given"
+        [ -f "$folder/second.script" ] || continue
+        put_images "$folder" "$given"
+        given=$(run_script "$folder" second.script && echo x)
+        count_rebuilt "$name, the second run, $compiler $level" "$folder/second.report" "$given"
     done
 }
 

@@ -1,5 +1,5 @@
 """Checks scripts before they are run: which lines are outside the script language, which word of each, and what was expected there; and
-which files that they name aren't there.
+which files that they name aren't there, or, where an `import` names them, don't say an image.
 
 usage: tools/check-script [--in FOLDER] [SCRIPT ..]
 
@@ -13,7 +13,9 @@ import os
 import signal
 import sys
 
+import images
 import scripts
+import studies
 
 
 def nearest(word):
@@ -66,6 +68,20 @@ def missing(name, folder):
     return None
 
 
+def no_image(name, folder):
+    """Why a file says no image, or None. A pipe with a name isn't read, which would empty it."""
+    path = os.path.join(folder, name)
+    if not os.path.isfile(path):
+        return None
+    with open(path, "rb") as file:
+        text = file.read()
+    try:
+        images.said(text)
+    except studies.Failed as error:
+        return f"says no image: {error}"
+    return None
+
+
 def check(name, script, folder):
     """Says what is wrong with a script, and answers how many things are."""
     wrong = 0
@@ -74,7 +90,7 @@ def check(name, script, folder):
         print(f"{name}: has {len(script):,} bytes and {len(lines):,} lines; "
               f"it may have {scripts.MOST_SCRIPT_BYTES:,} and {scripts.MOST_SCRIPT_LINES:,}")
         wrong += 1
-    asked = {}
+    asked = set()
     for line in lines:
         if not line.has_command:
             continue
@@ -88,10 +104,12 @@ def check(name, script, folder):
             wrong += 1
         elif "file_word" in form[1]:
             file = line.words[1 + form[1].index("file_word")]
-            if file not in asked:
-                asked[file] = missing(file, folder)
-                if asked[file]:
-                    print(f"{name}:{line.number}: file: `{file}` {asked[file]}, looked for in {folder}")
+            is_image = line.words[0] == "import"
+            if (file, is_image) not in asked:
+                asked.add((file, is_image))
+                why = missing(file, folder) or is_image and no_image(file, folder)
+                if why:
+                    print(f"{name}:{line.number}: file: `{file}` {why}, looked for in {folder}")
                     wrong += 1
     return wrong
 

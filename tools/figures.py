@@ -13,7 +13,7 @@ ABOUT = """Figures of a script: what a run of it says and what its memory takes,
 make, --answers, --table and --held are made."""
 MORE = """With --copies there stand beside the units of the run those of a machine that copies a whole page at the first store to it: the
 same script over 65,536 frames, with `promote P all` behind each command that may store, and with `checkpoint` and
-`restore` in the place of speculations. Nothing is shown where a line of the report is `full`, where a process is made after a
+`restore` in the place of speculations. An imported checkpoint is restored and promoted as a process, which is kept meanwhile. Nothing is shown where a line of the report is `full`, where a process is made after a
 speculation, or where with --calls a command finds or makes a process speculating.
 
 The program is run on copies of the script with `stats`, `list` and such commands added behind its own, so each number is one
@@ -55,7 +55,7 @@ def words():
 
 def without_saved(lines):
     """Lines of the report without the number of a checkpoint, which no command and no process asks for."""
-    return [re.sub(r"^(saved \d+ \S+) \d+$", r"\1", line) for line in lines]
+    return [re.sub(r"^(saved \d+ \S+|imported \S+) \d+\b", r"\1", line) for line in lines]
 
 
 def pieces(line, answer, turns):
@@ -140,6 +140,16 @@ def refuse_mixed_speculations(study):
             raise Failed(f"behind line {line.number} a process that may speculate by itself is speculating, so copies of whole pages aren't shown")
 
 
+def promoted(name, kept, numbers, line):
+    """Commands by which a checkpoint's pages are copied whole: a process stands for it in between, and is kept meanwhile. The checkpoint
+    has the same number behind them."""
+    if not numbers:
+        raise Failed(f"line {line.number} imports where there is no process, so copies of whole pages aren't shown")
+    process = numbers[0]
+    return [command(text) for text in (f"checkpoint {process} {kept}", f"restore {process} {name}", f"promote {process} all", f"forget {name}",
+                                       f"checkpoint {process} {name}", f"restore {process} {kept}", f"forget {kept}")]
+
+
 def copies(study):
     """The units behind each command on a machine that copies a whole page at the first store to it."""
     done = study.commands[:study.ended]
@@ -172,12 +182,16 @@ def copies(study):
             elif first not in PRINTS + ("promote",):
                 places.append((k, len(commands)))
                 commands += [line]
+            if first == "import":
+                commands += promoted(rest[0], kept, processes(measured)[0], line)
             if first in TURNS + ("poke", "dedup"):
                 commands += [command(f"promote {p} all") for p in processes(measured)[0]]
         before = processes(measured)[1]
         added.append(len(commands))
         commands += [command("stats")]
     answers, _ = study.run(commands, [word for word in study.words if not word.startswith("--frames")] + ["--frames=65536"])
+    if any(answer and answer[0].startswith("full ") for answer in answers):
+        raise Failed("copies of whole pages need more than 65,536 frames")
     for k, place in places:
         if without_saved(answers[place]) != without_saved(study.answers[k]):
             raise Failed(f"line {done[k].number} of the script is answered otherwise where whole pages are copied")

@@ -50,7 +50,7 @@ class Resolved:
     def file_of(self, line):
         """The file of the process of a line's command."""
         done = [before for before in self.lines if before.has_command]
-        owners = symbols.Owners()
+        owners = symbols.Owners(self.names.folder)
         for before, answer in zip(done, self.run(done)):
             owners.follow(before, answer)
         file = owners.file_of(scripts.number_in(line.words[1]))
@@ -61,7 +61,7 @@ class Resolved:
 
 def shown(study, reader, lines, answers):
     """The lines of the report with names; with `answers` each behind its command, as it was written."""
-    owners, given = symbols.Owners(), iter(study.answers)
+    owners, given = symbols.Owners(study.folder), iter(study.answers)
     written = {line.number: line for line in lines}
     for line in study.lines:
         if answers:

@@ -5,16 +5,19 @@ then asked further. `promote` of a page takes its own lines away, so the fall of
 adds a line exactly where it wasn't overlaid, if the page's frame is shared, as it is behind a `checkpoint`. A page that gets its 32nd line
 may be settled, by a program that does so: then `lines` falls, and `restore` brings the page back before the next is asked. A speculating
 process is never settled, and all that is stored into it goes into overlays. `unmap` of a page gives a frame's units back exactly where
-no other page names it.
+no other page names it. A page that can't be written has own lines where an image or a `dedup` gave it some; it is asked in a copy of its
+space, an `import` that gives no line, in which each page can be written.
 """
 import os
+import tempfile
 
 import elf
+import images
 import scripts
 import studies
+from images import LINE, LINES, PAGE
 from studies import LOADS, Failed, command, counts, is_done
 
-PAGE, LINE, LINES = 4096, 64, 64
 STACK_PAGES, STACK_BOTTOM = 16, 2**38 - 16 * 4096
 # where the words of an assembled text begin
 TEXT_BEGIN = 0x10078
@@ -43,11 +46,13 @@ class Page:
 
 
 class Space:
-    """A process or a checkpoint, with its pages by number. `asked_as` is the process that is asked in its place."""
+    """A process or a checkpoint, with its pages by number. `asked_as` is the process that is asked in its place, and `writable_copy` the
+    checkpoint to which it is taken for pages that can't be written."""
 
     def __init__(self, name, pages, speculating, process=None):
         self.name, self.pages, self.speculating = name, pages, speculating
         self.process = self.asked_as = process
+        self.writable_copy = None
 
     @property
     def is_checkpoint(self):
@@ -69,7 +74,7 @@ def file_pages(path):
     for segment in segments:
         for page in range(segment.address // PAGE, (segment.address + segment.size - 1) // PAGE + 1):
             flags.setdefault(page, set()).update(segment.perms | ({4} if 2 in segment.perms else set()))
-    pages = {page: "".join(name for bit, name in ((4, "r"), (2, "w"), (1, "x")) if bit in bits) for page, bits in flags.items()}
+    pages = {page: images.permissions(sum(bits)) for page, bits in flags.items()}
     return {**pages, **stack_pages()}
 
 
@@ -106,6 +111,9 @@ class Layouts:
             self.processes[said[2]] = dict(self.processes[said[1]])
         elif first == "checkpoint":
             self.kept[rest[1]] = dict(self.processes[process])
+        elif first == "import":
+            image = images.image_in(os.path.join(self.folder, rest[2]))
+            self.kept[rest[0]] = {number: page.perms for number, page in image.pages.items()}
         elif first == "restore":
             self.processes[process] = dict(self.kept[rest[1]])
         elif first == "forget":
@@ -176,6 +184,8 @@ class State:
         for line, answer in zip(done, answers):
             layouts.follow(line, answer)
         self.spaces = layouts.spaces(listed)
+        # what may give own lines to pages that can't be written
+        self.lines_anywhere = any(line.words[0] in ("import", "dedup") and is_done(answer) for line, answer in zip(done, answers))
         self.loads_done = [(line, answer) for line, answer in zip(done, answers) if line.words[0] in LOADS and is_done(answer)]
         self.listed = listed
         self.words = [word for word in study.words if not word.startswith("--frames")] + [f"--frames={self.frames()}"]
@@ -186,11 +196,11 @@ class State:
 
     def frames(self):
         """Frames that suffice: one more than twice as many as there are pages. Beside those that there were at most there are those of the
-        processes that stand for checkpoints, and those of the checkpoints that processes are taken back to."""
+        processes that stand for checkpoints, those of the checkpoints that processes are taken back to, and those of copies."""
         most = max((listed_pages(listed) for _, listed in self.study.told()[:self.count]), default=0)
         stand_ins = [space for space in self.spaces if space.is_checkpoint]
         loaded = max((int(answer[0].split()[3]) for _, answer in self.loads_done[:1]), default=0)
-        there = sum(len(space.pages) for space in self.spaces)
+        there = sum(len(space.pages) for space in self.spaces) * (2 if self.lines_anywhere else 1)
         return min(MOST_FRAMES, 1 + 2 * (most + there + len(stand_ins) * loaded))
 
     def ask(self, asked):
@@ -244,8 +254,10 @@ class State:
         before += [f"checkpoint {space.process} {self.undo(space)}" for space in self.spaces if not space.is_checkpoint and not space.speculating]
         pages = self.counted(before)
         bytes_there = self.bytes_of(before, pages)
-        for (space, page, _), groups in zip(pages, self.asked_lines(before, pages, bytes_there)):
-            space.pages[page].own = groups
+        with tempfile.TemporaryDirectory() as folder:
+            before += self.copies(pages, folder)
+            for (space, page, _), groups in zip(pages, self.asked_lines(before, pages, bytes_there)):
+                space.pages[page].own = groups
         if sum(space.lines for space in self.spaces) != self.lines:
             raise Failed(f"{sum(space.lines for space in self.spaces)} own lines were found, and `stats` has {self.lines}")
 
@@ -256,7 +268,8 @@ class State:
     def counted(self, before):
         """The pages whose lines are to be asked one by one, with how many own lines each has; of a speculating process that isn't known."""
         found = [(space, page, None) for space in self.spaces if space.speculating for page, there in space.pages.items() if there.is_writable]
-        asked = [(space, page) for space in self.spaces if not space.speculating for page, there in space.pages.items() if there.is_writable]
+        asked = [(space, page) for space in self.spaces if not space.speculating for page, there in space.pages.items()
+                 if there.is_writable or self.lines_anywhere]
         groups = [["stats", f"promote {space.asked_as} {page * PAGE:#x}", "stats"] for space, page in asked]
         for (space, page), answers in zip(asked, self.ask_groups(before, groups)):
             if answers[1] != ["ok"]:
@@ -266,6 +279,18 @@ class State:
                 space.pages[page].own = frozenset(range(LINES))
             elif lines:
                 found.append((space, page, lines))
+        return found
+
+    def copies(self, pages, folder):
+        """Commands that make copies of the spaces with own lines in pages that can't be written. Their files stand in a folder."""
+        found, number = [], 0
+        for space, page, _ in pages:
+            if not space.pages[page].is_writable and space.writable_copy is None:
+                number += 1
+                space.writable_copy, path = f"{self.prefix}copy-{number}", os.path.join(folder, f"{number}.img")
+                with open(path, "w", encoding="latin-1") as file:
+                    file.write("".join(line + "\n" for line in images.written(images.without_lines(space.pages))))
+                found.append(f"import {space.writable_copy} {self.undo(space)} {path}")
         return found
 
     def bytes_of(self, before, pages):
@@ -278,11 +303,14 @@ class State:
         groups = []
         for (space, page, count), there in zip(pages, bytes_there):
             each = LINES if count is None or count >= SETTLED_AT else max(1, SETTLED_AT - 1 - count)
-            group = ["stats"]
+            group, kept = ["stats"], self.undo(space)
+            if not space.pages[page].is_writable:
+                kept = space.writable_copy
+                group += [f"restore {space.asked_as} {kept}", "stats"]
             for line in range(LINES):
                 group += [f"poke {space.asked_as} {page * PAGE + LINE * line:#x} {there[line]}", "stats"]
                 if not space.speculating and line % each == each - 1:
-                    group += [f"restore {space.asked_as} {self.undo(space)}", "stats"]
+                    group += [f"restore {space.asked_as} {kept}", "stats"]
             if not space.speculating:
                 group += [f"restore {space.asked_as} {self.undo(space)}", "stats"]
             groups.append(group)

@@ -6,7 +6,7 @@ import check_script
 import scripts
 import studies
 import symbols
-from studies import LOADS, Failed, command, printable, processes
+from studies import Failed, command, printable, processes
 
 ABOUT = """A prompt over the commands of a script, of which each is answered at once: the program runs all commands so far once more, which gives the
 same report. Names stand for addresses and registers as in tools/named. With SCRIPT its commands are done first. A dialogue may come
@@ -98,13 +98,13 @@ class Session:
             return text
 
     def followed(self):
-        owners = symbols.Owners()
+        owners = symbols.Owners(self.folder)
         for line, answer in zip(self.commands, self.answers):
             owners.follow(line, answer)
             yield line, answer, owners
 
     def owners(self):
-        found = symbols.Owners()
+        found = symbols.Owners(self.folder)
         for line, answer in zip(self.commands, self.answers):
             found.follow(line, answer)
         return found
@@ -341,7 +341,7 @@ class Session:
         if line.form() is None:
             _, what = check_script.outside(line)
             raise Failed(printable(what))
-        if len(line.words) > 1 and line.words[0] not in LOADS + ("run", "forget"):
+        if line.form()[1][:1] == ["process_word"]:
             self.last_process = str(scripts.number_in(line.words[1]))
         self.add([" ".join(line.words)])
 
@@ -359,14 +359,15 @@ def completions(session, before, text):
     """The words that may stand where the cursor is."""
     if not before.split():
         return sorted(set(OWN_WORDS) | {first for first, _ in scripts.FORMS})
-    first = before.split()[0]
-    if first in LOADS + ("save",):
+    first, place = before.split()[0], len(before.split()) - 1
+    kinds = {form[1][place] for form in scripts.FORMS if form[0] == first and place < len(form[1])}
+    if "file_word" in kinds or first == "save":
         folder, name = os.path.split(text)
         there = os.path.join(session.folder, folder)
         return [os.path.join(folder, entry) for entry in (sorted(os.listdir(there)) if os.path.isdir(there) else [])]
-    if first == "set" and len(before.split()) == 2:
+    if "register_word" in kinds:
         return sorted(symbols.REGISTERS) + ["pc"]
-    if first in ("restore", "forget"):
+    if "checkpoint_word" in kinds:
         return studies.checkpoints(session.probe(["list"])[0])
     return session.names.all_names(session.files())
 

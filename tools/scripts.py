@@ -101,6 +101,9 @@ KINDS = {
 # where a kind has another name in a form
 VALUES = {("set", "address_word"): "value_word"}
 
+# where a word has another name than its kind, by its place
+NAMES = {("export", 2): "BASE", ("import", 1): "NEW", ("import", 2): "BASE", ("dedup", 3): "Q"}
+
 
 def fits(kind, word):
     """Whether a word is of a kind."""
@@ -134,7 +137,8 @@ FORMS = forms()
 
 
 def form_text(form):
-    return " ".join([form[0]] + [KINDS[kind][0] for kind in form[1]])
+    first, kinds = form
+    return " ".join([first] + [NAMES.get((first, place), KINDS[kind][0]) for place, kind in enumerate(kinds, 1)])
 
 
 class Line:
@@ -205,6 +209,8 @@ def split(commands, report):
                 lines += turns()
             elif first == "regs":
                 lines += take(32)
+            elif first == "export":
+                lines += take(-(-int(lines[0].split()[3]) // CONSTANTS["LINE_BYTES"]))
             elif first == "dump":
                 lines += take((number_in(command.words[3]) + 15) // 16 - 1)
             elif first == "disasm":

@@ -17,7 +17,7 @@ from scripts import printable
 TURNS = ("run", "step", "exec")
 # what makes a process of a file
 LOADS = ("load", "asm", "exec")
-PRINTS = ("list", "stats", "regs", "dump", "disasm")
+PRINTS = ("list", "stats", "regs", "dump", "disasm", "export")
 STATUSES = {1: "there was no memory", 3: "a file isn't there, or can't be read", 4: "the report couldn't be written",
             6: "the script or a file is too long"}
 

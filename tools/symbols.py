@@ -7,6 +7,7 @@ import os
 import re
 
 import elf
+import images
 import scripts
 from studies import Failed, command, is_done
 
@@ -122,10 +123,10 @@ class Ambiguous(Failed):
 
 
 class Owners:
-    """Which file each process and each checkpoint was made from, followed along a script by what it was answered."""
+    """Which file each process and each checkpoint was made from, followed along a script, in a folder, by what it was answered."""
 
-    def __init__(self):
-        self.processes, self.kept = {}, {}
+    def __init__(self, folder):
+        self.folder, self.processes, self.kept = folder, {}, {}
 
     def follow(self, line, answer):
         if not is_done(answer):
@@ -141,6 +142,10 @@ class Owners:
             self.processes[said[2]] = self.processes.get(said[1])
         elif first == "checkpoint":
             self.kept[rest[1]] = self.processes.get(process)
+        elif first == "import":
+            # instructions that the image gives may be those of another file
+            image = images.image_in(os.path.join(self.folder, rest[2]))
+            self.kept[rest[0]] = None if image.gives_code else self.kept.get(rest[1])
         elif first == "restore":
             self.processes[process] = self.kept.get(rest[1])
 

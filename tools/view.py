@@ -63,8 +63,10 @@ def with_lines(study, k):
 def changed_bytes(study, k, state):
     """The lines whose bytes a command changed: of each page with such lines its process, its number, and a mask of 64 bits."""
     before, names = overlaid.State(study, k), touched(study, k)
+    # what is restored may have other bytes in pages that can't be written too
+    is_restored = study.commands[k].words[0] == "restore"
     asked = [(space, number) for space in state.spaces if not space.is_checkpoint and (names is None or space.name in names)
-             for number, page in space.pages.items() if page.is_writable]
+             for number, page in space.pages.items() if page.is_writable or is_restored]
     old = {(space.name, number) for space in before.spaces for number in space.pages}
     asked = [(space, number) for space, number in asked if (space.name, number) in old]
     if len(asked) > MOST_COMPARED:
@@ -90,6 +92,8 @@ def touched(study, k):
         return {f"process {said[2]}"}
     if first == "checkpoint":
         return {f"checkpoint {rest[1]}"}
+    if first == "import":
+        return {f"checkpoint {rest[0]}"}
     number = scripts.number_in(rest[0]) if rest else None
     return set() if first in ("compact", "forget", "drop") or number is None else {f"process {number}"}
 

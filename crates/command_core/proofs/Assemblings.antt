@@ -5,7 +5,7 @@ use Rattle.rv_asm.specs.declared.error.AsmError.{AsmError}
 use Rattle.rv_asm.specs.declared.error.AsmError.TheVariants.{BadLine, Twice, NoLabel, OutOfReach, Empty, TooMany, Memory}
 use Rattle.rv_asm.specs.Assembly.{Is, IsFileOf, assembled}
 use Rattle.report_text.specs.declared.answer.Answer.{Answer}
-use Rattle.report_text.specs.declared.answer.Answer.TheVariants.{Done, Loaded, Forked, Saved, Shared, Refused, Full}
+use Rattle.report_text.specs.declared.answer.Answer.TheVariants.{Done, Loaded, Forked, Saved, Imported, Shared, Refused, Full}
 use Rattle.report_text.specs.declared.answer.Answer.TheVariants as told
 use Rattle.report_text.specs.declared.answer.Code.{Code}
 use Rattle.report_text.specs.declared.answer.Code.TheVariants.{Elf, AsmLine, AsmTwice, AsmNoLabel, AsmOutOfReach, AsmEmpty, AsmTooMany}
@@ -97,6 +97,7 @@ module _ (text file : List ℕ) (is : assembled text ≡ Ok file) (file_is : IsF
   taken_loaded (Loaded p pages entry) new gives = subst (TakesText text) (sym gives.answer_is) taken_row
   taken_loaded (Forked p q) new gives = tt
   taken_loaded (Saved p name space) new gives = tt
+  taken_loaded (Imported name space pages) new gives = tt
   taken_loaded (Shared pages) new gives = tt
   taken_loaded (Refused code) new gives = subst (TakesText text) (sym gives.answer_is) taken_row
   taken_loaded (Full units limit) new gives = tt

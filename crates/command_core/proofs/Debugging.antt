@@ -1,4 +1,4 @@
-use Rattle.std.proofs.Common.{◌≡◌, ℕ, cond, false, List, ap, refl, Some}
+use Rattle.std.proofs.Common.{◌≡◌, ℕ, cond, false, List, ap, refl, subst, sym, Some}
 use Rattle.std.specs.FinMap.{get}
 use Rattle.breakpoints.specs.Breakpoints.{Breaks, has_break, with_break, without_break}
 use Rattle.machine_core.specs.declared.process.Process as declared
@@ -13,7 +13,7 @@ use Rattle.command_core.specs.Giving.{GivesChange}
 use Rattle.command_core.specs.Debugging.{break_row, unbreak_row}
 use Rattle.command_core.specs.Changes.{on_process}
 use Rattle.command_core.specs.LikeLaws.{states_itself}
-use Rattle.command_core.proofs.Rows.{gives_found, row_accepted, row_wants}
+use Rattle.command_core.proofs.Rows.{NeverNone, gives_found, row_accepted, row_wants}
 
 -- Breakpoints of a process that is there, added and taken away.
 
@@ -37,7 +37,7 @@ module _ (old : Machine) (xs : List Kept) (breaks : Breaks) (p address : ℕ) (p
   pub break_wants : has_break breaks p address ≡ false → GivesChange (on_process p (break_row p address) (registry_of before)) before Memory before
   break_wants absent =
       gives_found old kept breaks p (break_row p address) process Memory before there
-      (row_wants (break_row p address whole (registry_of before)) before before (ap (λ there. cond there TakesNone TakesLast) absent) refl refl, refl)
+      (row_wants (break_row p address whole (registry_of before)) before before (subst NeverNone (sym (ap (λ there. cond there TakesNone TakesLast) absent)) tt) refl refl, refl)
 
   pub break_removed : GivesChange (on_process p (unbreak_row p address) (registry_of before)) before Done (shown_state old xs (without_break breaks p address))
   unfolding ledger_by

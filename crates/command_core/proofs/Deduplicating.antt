@@ -24,7 +24,7 @@ use Rattle.machine_core.specs.declared.process.Process as declared
 use Rattle.machine_core.specs.Machine.{Machine, is_marked, lists_of, processes_of, spaces_of, whole_in, with_memory}
 use Rattle.machine_core.specs.Laws.{processes_at}
 use Rattle.report_text.specs.declared.answer.Answer.{Answer}
-use Rattle.report_text.specs.declared.answer.Answer.TheVariants.{Done, Forked, Full, Loaded, Memory, Refused, Saved, Shared}
+use Rattle.report_text.specs.declared.answer.Answer.TheVariants.{Done, Forked, Full, Imported, Loaded, Memory, Refused, Saved, Shared}
 use Rattle.report_text.specs.declared.answer.Code.{Code}
 use Rattle.report_text.specs.declared.answer.Code.TheVariants.{FrameHere, NoProcess, NotAlike, NotAlone, Unmapped}
 use Rattle.report_text.specs.Answers.{HasAnswerLine}
@@ -160,6 +160,7 @@ comes_gives row old new Done line comes = comes
 comes_gives row old new (Loaded p pages entry) line comes = comes
 comes_gives row old new (Forked p q) line comes = comes
 comes_gives row old new (Saved p name space) line comes = comes
+comes_gives row old new (Imported name space pages) line comes = comes
 comes_gives row old new (Shared pages) line comes = comes
 comes_gives row old new (Refused code) line comes = comes
 comes_gives row old new (Full needed limit) line comes = comes
@@ -170,6 +171,7 @@ line_keeps old new Done line = (tt, line)
 line_keeps old new (Loaded p pages entry) line = (tt, line)
 line_keeps old new (Forked p q) line = (tt, line)
 line_keeps old new (Saved p name space) line = (tt, line)
+line_keeps old new (Imported name space pages) line = (tt, line)
 line_keeps old new (Shared pages) line = (tt, line)
 line_keeps old new (Refused code) line = (tt, line)
 line_keeps old new (Full needed limit) line = (tt, line)

@@ -26,7 +26,10 @@ use Rattle.elf_loader.specs.declared.header.ProgramHeader.{ProgramHeader}
 use Rattle.overlay_pages.specs.State.{PageState, SpaceState, memory_of, seen_page}
 use Rattle.space_maps.specs.Laws.{space_absent}
 use Rattle.space_maps.specs.Spaces.{space_in}
-use Rattle.delta_image.specs.Fine.{are_perms}
+use Rattle.delta_image.specs.declared.delta.Delta.{Delta}
+use Rattle.delta_image.specs.declared.delta.DeltaPage.{DeltaPage}
+use Rattle.delta_image.specs.Applied.{applied, applied_page}
+use Rattle.delta_image.specs.Fine.{Ascend, IsPlain, are_perms}
 use Rattle.delta_spaces.specs.Gathered.{HasFitPages}
 use Rattle.machine_core.specs.declared.process.Process as declared
 use Rattle.machine_core.specs.Load.{image_memory, stack_page, stack_pages, zero_content}
@@ -266,3 +269,23 @@ copied_fit flushes from to process old new copied fit =
     let whole : Process = whole_in (spaces_of old) from process in
     subst HasFitPages
     (memory_shown new to whole (ap (λ (w : Wholes). get w.processes to) copied.after ∙ get_same (wholes old).processes to to whole refl)) (fit from)
+
+-- a delta's pages, where it may be encoded
+fine_given : (base : Memory) (from : ℕ) (pages : List DeltaPage) → Ascend IsPlain from pages
+    → AllByRecursion IsFineEntry (map (λ page. (page.page, applied_page base page)) pages)
+fine_given base from [] ascend = tt
+fine_given base from (page ∷ pages) ascend = (ascend.1.perms, fine_given base (page.page + 1) pages ascend.2)
+
+pub fit_applied : (delta : Delta) (base : Memory) → length delta.pages ≤ MOST_SPACE_PAGES → Ascend IsPlain 0 delta.pages → HasFitPages (applied delta base)
+fit_applied delta base few ascend =
+    let es = map (λ page. (page.page, applied_page base page)) delta.pages in
+    record {
+      few = omega (arith, few, few_entries es, length-map {B = ℕ × Page} delta.pages (λ page. (page.page, applied_page base page)));
+      perms = λ q page there. fine_found es q page (fine_given base 0 delta.pages ascend) (sym (get-from_entries nat_cmp_total es q) ∙ there);
+    }
+
+-- how many pages a space has, as its memory shows them
+pub few_pages_in : (machine : Machine) (p : ℕ) → HasFitPages (memory_of (spaces_of machine) p) → len (space_in (spaces_of machine) p).pages ≤ MOST_SPACE_PAGES
+unfolding memory_of
+few_pages_in machine p fit =
+    subst (λ n. n ≤ MOST_SPACE_PAGES) (len_viewed (λ _ (x : PageState). seen_page x) (space_in (spaces_of machine) p).pages) fit.few

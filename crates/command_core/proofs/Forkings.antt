@@ -5,6 +5,7 @@ use Rattle.std.specs.Option.{is_some, option_map_or}
 use Rattle.std.specs.FinMap.{get}
 use Rattle.number_maps.specs.Keys.{get_same}
 use Rattle.free_numbers.specs.Numbers.{IsPut, is_number}
+use Rattle.ledger.specs.Events.{Copy}
 use Rattle.overlay_memory.specs.declared.error.SpaceError.{SpaceError}
 use Rattle.space_maps.specs.Spaces.{space_in}
 use Rattle.machine_core.specs.Process.{Process}
@@ -77,7 +78,7 @@ module _ (old : Machine) (xs : List Kept) (breaks : Breaks) (p : ℕ) (process :
         gives_kept (on_process p (fork_row p)) old new xs breaks (free_same old new (spaces_kept xs) (copy_keeps p n old new e unmade).free is.free) (answer_of e)
         (gives_found old kept breaks p (fork_row p) process (answer_of e) after there
         (subst (λ o. GivesChange (under o) before (answer_of e) after) (sym next)
-        (gives_unmade (under (Some n)) p n old new kept breaks none refl refl refl e unmade)))
+        (gives_unmade (under (Some n)) (Copy p n) old new kept breaks none refl tt refl e unmade)))
 
 -- what a session keeps
 abbrev saved_of : Option declared.Process → Bool

@@ -13,6 +13,8 @@ pub mod Dropping
 pub mod Copies
 pub mod Forkings
 pub mod Savings
+pub mod Importing
+pub mod Exporting
 pub mod Speculating
 pub mod Deduplicating
 pub mod Pages

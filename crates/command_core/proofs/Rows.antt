@@ -22,7 +22,7 @@ use Rattle.command_core.specs.State.{AreLikeStates, Checkpoint, Registry, State,
 use Rattle.command_core.specs.Sessions.{KeepsSession, session_state}
 use Rattle.command_core.specs.declared.checkpoints.Kept.{Kept}
 use Rattle.command_core.specs.Kept.{checkpoints_in, shown_state, spaces_kept}
-use Rattle.command_core.specs.Rows.{Changed, MemoryTaken, Row, TakesLast, accepts, change_by, event_needs, falls_short, first_refusal, is_event_full, row_is_full, ledger_by, may_want_memory, refused_row, refuses, still_row, wants_by, within_units}
+use Rattle.command_core.specs.Rows.{Changed, MemoryTaken, Row, TakesFirst, TakesLast, TakesNone, accepts, change_by, event_needs, falls_short, first_refusal, is_event_full, row_is_full, ledger_by, may_want_memory, refused_row, refuses, still_row, wants_by, within_units}
 use Rattle.command_core.specs.Giving.{ComesTo, GivesChange, MachineGives}
 use Rattle.command_core.specs.Checkpoints.{checkpoint_named, on_checkpoint}
 use Rattle.command_core.specs.Changes.{on_process}
@@ -68,6 +68,12 @@ comes_to_be : (wanted given : Changed State) (s : State) → wanted ≡ given �
 comes_to_be wanted given s same like =
     record { answer_is = sym (ap (λ (c : Changed State). c.answer) same); after_is = subst (λ (c : Changed State). AreLikeStates s c.after) (sym same) like }
 
+-- a row that takes memory
+abbrev pub NeverNone : MemoryTaken → Type 0
+NeverNone TakesNone = ⊥
+NeverNone TakesLast = Unit {0}
+NeverNone TakesFirst = Unit {0}
+
 module _ (row : Row) (old new : State) where
   by_refusal : (o : Option Code) → first_refusal row.refusals ≡ o → change_by row old ≡ option_map_or (λ code. refuses code old) o (within_units row old)
   by_refusal o is = ap (λ (found : Option Code). option_map_or (λ code. refuses code old) found (within_units row old)) is
@@ -95,10 +101,13 @@ module _ (row : Row) (old new : State) where
   row_accepted none enough like = comes_to_be (change_by row old) (accepts row old) new (by_units false none enough) like
 
   -- it may want memory
-  pub row_wants : row.memory ≡ TakesLast → first_refusal row.refusals ≡ None → row_is_full row old ≡ false → may_want_memory row old ≡ true
-  row_wants last none enough =
-      ap (λ (m : MemoryTaken). wants_by m (is_some (first_refusal row.refusals)) (row_is_full row old)) last
-      ∙ ap (λ (o : Option Code). not (is_some o) && not (row_is_full row old)) none ∙ ap not enough
+  pub row_wants : NeverNone row.memory → first_refusal row.refusals ≡ None → row_is_full row old ≡ false → may_want_memory row old ≡ true
+  row_wants ever none enough = by_memory row.memory ever
+    where
+      by_memory : (memory : MemoryTaken) → NeverNone memory → wants_by memory (is_some (first_refusal row.refusals)) (row_is_full row old) ≡ true
+      by_memory TakesNone h = absurd h
+      by_memory TakesLast h = ap (λ (o : Option Code). not (is_some o) && not (row_is_full row old)) none ∙ ap not enough
+      by_memory TakesFirst h = refl
 
 -- A command that isn't there changes nothing.
 

@@ -5,6 +5,7 @@ use Rattle.std.specs.Option.{is_some, option_map, option_map_or}
 use Rattle.std.specs.FinMap.{get}
 use Rattle.number_maps.specs.Keys.{by_key, get_same}
 use Rattle.free_numbers.specs.Numbers.{IsPut, is_number}
+use Rattle.ledger.specs.Events.{Copy}
 use Rattle.translation_cache.specs.Absent.{HasNone, none_flushed}
 use Rattle.overlay_pages.specs.State.{SpaceState, base_of, memory_of}
 use Rattle.overlay_memory.specs.View.{TranslatedView, state_of as spaces_in}
@@ -128,7 +129,7 @@ module _ (old : Machine) (xs : List Kept) (breaks : Breaks) (p : ℕ) (name : Li
           gives_kept (on_process p (checkpoint_row p name)) old new xs breaks (free_same old new (spaces_kept xs) (copy_keeps p n old new e unmade).free is.free) (answer_of e)
           (gives_found old kept breaks p (checkpoint_row p name) process (answer_of e) after there
           (subst (λ o. GivesChange (under o) before (answer_of e) after) (sym next)
-          (gives_unmade (under (Some n)) p n old new kept breaks none refl refl refl e unmade)))
+          (gives_unmade (under (Some n)) (Copy p n) old new kept breaks none refl tt refl e unmade)))
 
   -- A restore.
   abbrev restoring : Row
@@ -181,7 +182,7 @@ module _ (old : Machine) (xs : List Kept) (breaks : Breaks) (p : ℕ) (name : Li
     not_restored e unmade =
         gives_kept (on_process p (restore_row p name)) old new xs breaks (free_same old new (spaces_kept xs) (copy_keeps x.space p old new e unmade).free is.free) (answer_of e)
         (gives_by false (Some x) (answer_of e) after marked found
-        (gives_unmade (restores_by false (Some x)) x.space p old new kept breaks refl refl refl refl e unmade))
+        (gives_unmade (restores_by false (Some x)) (Copy x.space p) old new kept breaks refl refl tt refl e unmade))
 
 -- what a session keeps
 pub session_of_saved : (old new : Machine) (xs : List Kept) (numbers left : List (List ℕ)) (q p : ℕ) (x : Kept) → IsSession old (spaces_kept xs) numbers

@@ -4,7 +4,7 @@ use Rattle.std.specs.Option.{option_map_or}
 use Rattle.ledger.specs.AmpleLaws.{AreAmple}
 use Rattle.machine_core.specs.Ample.{within_ample}
 use Rattle.report_text.specs.declared.answer.Answer.{Answer}
-use Rattle.report_text.specs.declared.answer.Answer.TheVariants.{Done, Loaded, Forked, Saved, Shared, Refused, Full, Memory}
+use Rattle.report_text.specs.declared.answer.Answer.TheVariants.{Done, Loaded, Forked, Saved, Imported, Shared, Refused, Full, Memory}
 use Rattle.report_text.specs.declared.answer.Code.{Code}
 use Rattle.rv_asm.specs.Assembly.{assembled}
 use Rattle.script_text.specs.declared.command.Command.{Command}
@@ -12,7 +12,8 @@ use Rattle.command_core.specs.State.{State, registry_of}
 use Rattle.command_core.specs.Sessions.{InSession}
 use Rattle.command_core.specs.Rows.{Row, accepts, change_by, falls_short, first_refusal, row_is_full, ledger_by, refuses, registered}
 use Rattle.command_core.specs.Giving.{ComesTo, is_full_answer}
-use Rattle.command_core.specs.CommandCases.{asm_itself, row_itself}
+use Rattle.command_core.specs.CommandCases.{asm_itself, import_itself, row_itself}
+use Rattle.command_core.specs.Images.{import_row}
 use Rattle.command_core.specs.Changes.{asm_row, load_row, row_in}
 use Rattle.command_core.specs.Standing.{GivesAs, SessionStandsFor}
 
@@ -54,6 +55,7 @@ module _ (row : State → Row) (old new : InSession) (itself : (state : State) �
   amply_done (Loaded p pages entry) gives state stands ample = refl
   amply_done (Forked p q) gives state stands ample = refl
   amply_done (Saved p name space) gives state stands ample = refl
+  amply_done (Imported name space pages) gives state stands ample = refl
   amply_done (Shared pages) gives state stands ample = refl
   amply_done (Refused code) gives state stands ample = refl
   amply_done Memory gives state stands ample = refl
@@ -65,6 +67,11 @@ amply_changed file c old new answer gives = amply_done (row_in file c) old new (
 pub amply_loaded : (file : List ℕ) (old new : InSession) (answer : Answer) → GivesAs (registered (load_row file)) old answer new
     → IsAmplyDone (registered (load_row file)) old answer
 amply_loaded file old new answer gives = amply_done (registered (load_row file)) old new (λ state. refl) answer gives
+
+pub amply_imported : (name base file : List ℕ) (old new : InSession) (answer : Answer) → GivesAs (registered (import_row name base file)) old answer new
+    → IsAmplyDone (registered (import_row name base file)) old answer
+amply_imported name base file old new answer gives =
+    amply_done (registered (import_row name base file)) old new (λ state. import_itself name base file (registry_of state)) answer gives
 
 pub amply_assembled : (text : List ℕ) (old new : InSession) (answer : Answer) → GivesAs (registered (asm_row text)) old answer new
     → IsAmplyDone (registered (asm_row text)) old answer

@@ -26,6 +26,7 @@ use Rattle.command_core.specs.Copies.{draws, fork_row}
 use Rattle.command_core.specs.ProcessChanges.{process_row}
 use Rattle.command_core.specs.Debugging.{break_row, poke_row, unbreak_row}
 use Rattle.command_core.specs.Checkpoints.{checkpoint_row, forget_row, on_checkpoint, restore_row}
+use Rattle.command_core.specs.Images.{import_row}
 use Rattle.command_core.specs.Deduplication.{dedup_all_row, dedup_row}
 
 -- The changes that commands make.
@@ -79,6 +80,7 @@ change_row file (command.Fork p) = on_process p (fork_row p)
 change_row file (command.Checkpoint p name) = on_process p (checkpoint_row p name)
 change_row file (command.Restore p name) = on_process p (restore_row p name)
 change_row file (command.Forget name) = on_checkpoint name (forget_row name)
+change_row file (command.Import name base from) = import_row name base file
 change_row file (command.Speculate p) = on_process p (process_row p Speculate)
 change_row file (command.Commit p) = on_process p (process_row p Commit)
 change_row file (command.Discard p) = on_process p (process_row p Discard)
@@ -93,6 +95,7 @@ change_row file (command.Set p register value) = on_process p (process_row p (Se
 change_row file (command.Break p address) = on_process p (break_row p address)
 change_row file (command.Unbreak p address) = on_process p (unbreak_row p address)
 change_row file (command.Exec name turns) = still_row
+change_row file (command.Export name base) = still_row
 change_row file (command.Run turns) = still_row
 change_row file (command.Step p turns) = still_row
 change_row file command.List = still_row
@@ -122,6 +125,8 @@ told_by_ledger (command.Fork p) = None
 told_by_ledger (command.Checkpoint p name) = None
 told_by_ledger (command.Restore p name) = None
 told_by_ledger (command.Forget name) = None
+told_by_ledger (command.Export name base) = None
+told_by_ledger (command.Import name base from) = None
 told_by_ledger (command.Speculate p) = None
 told_by_ledger (command.Commit p) = None
 told_by_ledger (command.Discard p) = None

@@ -8,7 +8,7 @@ use Rattle.ledger.specs.Events as event
 use Rattle.overlay_pages.specs.State.{memory_of}
 use Rattle.overlay_memory.specs.declared.error.SpaceError.{SpaceError}
 use Rattle.overlay_memory.specs.declared.error.SpaceError.TheVariants.{Full, Memory}
-use Rattle.machine_core.specs.Process.{Process, is_speculating}
+use Rattle.machine_core.specs.Process.{Process, Whole, is_speculating}
 use Rattle.machine_core.specs.Machine.{IsDropped, Machine, StaysBut, Wholes, has_space, spaces_of, wholes}
 use Rattle.report_text.specs.declared.answer.Answer.TheVariants.{Saved}
 use Rattle.report_text.specs.declared.answer.Code.{Code}
@@ -30,11 +30,14 @@ abbrev pub checkpoints_but : List ℕ → List Checkpoint → List Checkpoint
 checkpoints_but name [] = []
 checkpoints_but name (x ∷ xs) = if pointwise nat_eq name x.name then xs else x ∷ checkpoints_but name xs
 
--- one more, with this number
-abbrev pub saves : ℕ → List ℕ → Process → Registry → Registry
-saves n name process registry = record registry {
-  checkpoints = registry.checkpoints ++ record { name = name; space = n; whole = whole_of process } ∷ [];
+-- one more, the last of all, with this number; and with the whole of a process
+abbrev pub keeps_whole : ℕ → List ℕ → Whole → Registry → Registry
+keeps_whole n name whole registry = record registry {
+  checkpoints = registry.checkpoints ++ record { name = name; space = n; whole = whole } ∷ [];
 }
+
+abbrev pub saves : ℕ → List ℕ → Process → Registry → Registry
+saves n name process registry = keeps_whole n name (whole_of process) registry
 
 abbrev pub checkpoint_refusals : Bool → Bool → Option ℕ → List (Option Code)
 checkpoint_refusals speculating found next = by_speculating speculating ∷ refused_if found NameTaken ∷ by_numbers_used next ∷ []

@@ -1,10 +1,12 @@
-use Rattle.std.specs.Prelude.{◌≡◌, ℕ, false, List, [], Option, Some, None, Result, Ok, Err, refl}
-use Rattle.std.specs.Option.{option_map_or}
+use Rattle.std.specs.Prelude.{◌≡◌, ℕ, Bool, false, true, List, [], Option, Some, None, Result, Ok, Err, refl}
+use Rattle.std.specs.Option.{is_some, option_map_or}
 use Rattle.std.specs.FinMap.{get}
 use Rattle.ledger.specs.Events as event
 use Rattle.machine_core.specs.Process.{Process, Whole}
 use Rattle.rv_asm.specs.declared.error.AsmError.{AsmError}
 use Rattle.rv_asm.specs.Assembly.{assembled}
+use Rattle.delta_image.specs.declared.delta.Delta.{Delta}
+use Rattle.report_text.specs.declared.answer.Code.{Code}
 use Rattle.report_text.specs.declared.answer.Code.TheVariants.{NoCheckpoint, NoProcess, NotSpeculating}
 use Rattle.script_text.specs.declared.command.Command.{Command}
 use Rattle.script_text.specs.declared.command.Command.TheVariants as command
@@ -17,6 +19,7 @@ use Rattle.command_core.specs.Giving.{is_full_answer}
 use Rattle.command_core.specs.Copies.{fork_row}
 use Rattle.command_core.specs.ProcessChanges.{after_discard, leaves, process_row}
 use Rattle.command_core.specs.Checkpoints.{checkpoint_named, checkpoint_row, forget_row, on_checkpoint, restore_row}
+use Rattle.command_core.specs.Images.{delta_said, import_by, import_over, import_row, import_where}
 use Rattle.command_core.specs.Debugging.{break_row, poke_row, unbreak_row}
 use Rattle.command_core.specs.Changes.{LedgerTold, TellsCounts, TellsDedup, TellsDedupAll, asm_by, change_row, drop_row, ledger_row, on_process, row_in, told_by_ledger}
 use Rattle.command_core.specs.Commands.{Rules, change_told, ledger_done, performed_by}
@@ -32,6 +35,7 @@ pub data GoesBy {S T : Type 0} (x : Rules S) (y : Rules T) (modes : Modes) (file
   ByRegs : (p : ℕ) → GoesBy x y modes file (command.Regs p)
   ByDump : (p address count : ℕ) → GoesBy x y modes file (command.Dump p address count)
   ByDisasm : (p address words : ℕ) → GoesBy x y modes file (command.Disasm p address words)
+  ByExport : (name base : List ℕ) → GoesBy x y modes file (command.Export name base)
   ByLedger : (c : Command) (tells : LedgerTold) → ((state : S) → performed_by x modes file c state ≡ x.by_ledger (ledger_done tells) state)
       → ((state : T) → performed_by y modes file c state ≡ y.by_ledger (ledger_done tells) state) → told_by_ledger c ≡ Some tells → GoesBy x y modes file c
   ByChange : (c : Command) → ((state : S) → performed_by x modes file c state ≡ change_told x file c state)
@@ -49,12 +53,14 @@ goes_by x y modes file (command.DedupAll p q) = ByLedger (command.DedupAll p q) 
 goes_by x y modes file (command.Regs p) = ByRegs p
 goes_by x y modes file (command.Dump p address count) = ByDump p address count
 goes_by x y modes file (command.Disasm p address words) = ByDisasm p address words
+goes_by x y modes file (command.Export name base) = ByExport name base
 goes_by x y modes file (command.Load name) = ByChange (command.Load name) (λ state. refl) (λ state. refl) refl
 goes_by x y modes file (command.Asm name) = ByChange (command.Asm name) (λ state. refl) (λ state. refl) refl
 goes_by x y modes file (command.Fork p) = ByChange (command.Fork p) (λ state. refl) (λ state. refl) refl
 goes_by x y modes file (command.Checkpoint p name) = ByChange (command.Checkpoint p name) (λ state. refl) (λ state. refl) refl
 goes_by x y modes file (command.Restore p name) = ByChange (command.Restore p name) (λ state. refl) (λ state. refl) refl
 goes_by x y modes file (command.Forget name) = ByChange (command.Forget name) (λ state. refl) (λ state. refl) refl
+goes_by x y modes file (command.Import name base from) = ByChange (command.Import name base from) (λ state. refl) (λ state. refl) refl
 goes_by x y modes file (command.Speculate p) = ByChange (command.Speculate p) (λ state. refl) (λ state. refl) refl
 goes_by x y modes file (command.Commit p) = ByChange (command.Commit p) (λ state. refl) (λ state. refl) refl
 goes_by x y modes file (command.Discard p) = ByChange (command.Discard p) (λ state. refl) (λ state. refl) refl
@@ -104,6 +110,21 @@ pub asm_itself : (r : Result (List ℕ) AsmError) (registry : Registry) → is_f
 asm_itself (Ok file) registry = refl
 asm_itself (Err e) registry = refl
 
+import_under_itself : (found : Result Delta Code) (name : List ℕ) (x : Checkpoint) (registry : Registry) → is_full_answer (import_by found name x registry).answer ≡ false
+import_under_itself (Ok delta) name x registry = refl
+import_under_itself (Err code) name x registry = refl
+
+pub import_itself : (name base file : List ℕ) (registry : Registry) → is_full_answer (import_row name base file registry).answer ≡ false
+import_itself name base file registry = by_taken (is_some (checkpoint_named name registry.checkpoints))
+  where
+    by_found : (o : Option Checkpoint) → is_full_answer (import_over o name file registry).answer ≡ false
+    by_found None = refl
+    by_found (Some x) = import_under_itself (delta_said file) name x registry
+
+    by_taken : (taken : Bool) → is_full_answer (import_where taken name base file registry).answer ≡ false
+    by_taken true = refl
+    by_taken false = by_found (checkpoint_named base registry.checkpoints)
+
 pub change_itself : (file : List ℕ) (c : Command) (registry : Registry) → is_full_answer (change_row file c registry).answer ≡ false
 change_itself file (command.Fork p) registry = on_process_itself p (fork_row p) (λ process registry. refl) registry
 change_itself file (command.Checkpoint p name) registry = on_process_itself p (checkpoint_row p name) (λ process registry. refl) registry
@@ -123,11 +144,13 @@ change_itself file (command.Set p register value) registry = on_process_itself p
 change_itself file (command.Load name) registry = refl
 change_itself file (command.Asm name) registry = asm_itself (assembled file) registry
 change_itself file (command.Forget name) registry = on_checkpoint_itself name registry
+change_itself file (command.Import name base from) registry = import_itself name base file registry
 change_itself file command.Compact registry = refl
 change_itself file (command.Exec name turns) registry = refl
 change_itself file (command.Run turns) registry = refl
 change_itself file (command.Step p turns) registry = refl
 change_itself file (command.Regs p) registry = refl
+change_itself file (command.Export name base) registry = refl
 change_itself file (command.Dump p address n) registry = refl
 change_itself file (command.Disasm p address n) registry = refl
 change_itself file command.List registry = refl

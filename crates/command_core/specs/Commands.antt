@@ -1,4 +1,4 @@
-use Rattle.std.specs.Prelude.{◌≡◌, ℕ, zero, suc, ◌+◌, ◌-◌, ◌*◌, ◌/◌, ◌==◌, min, nat_lt, ◌||◌, Bool, true, false, List, [], ◌++◌, length, flat_map, Option, Some, None, if◌then◌else◌}
+use Rattle.std.specs.Prelude.{◌≡◌, ℕ, zero, suc, ◌+◌, ◌-◌, ◌*◌, ◌/◌, ◌==◌, min, nat_lt, ◌||◌, Bool, true, false, List, [], ◌++◌, length, flat_map, Option, Some, None, Result, Ok, Err, if◌then◌else◌}
 use Rattle.std.specs.FinMap.{entries, get, len}
 use Rattle.sizes.specs.declared.TheConstants.{MOST_FILE_BYTES}
 use Rattle.ovl_io.specs.Memory.{Memory, bytes_at, first_denied}
@@ -11,10 +11,11 @@ use Rattle.script_text.specs.declared.command.Command.TheVariants.{Exec, Load, A
 use Rattle.script_text.specs.declared.command.Command.TheVariants as command
 use Rattle.report_text.specs.declared.answer.Answer.{Answer}
 use Rattle.report_text.specs.declared.answer.Answer.TheVariants.{Loaded}
+use Rattle.report_text.specs.declared.answer.Code.{Code}
 use Rattle.report_text.specs.declared.answer.Code.TheVariants.{NoProcess, Ended, Unmapped}
 use Rattle.report_text.specs.declared.TheConstants.{ROW_BYTES}
 use Rattle.report_text.specs.Answers.{answer_text}
-use Rattle.report_text.specs.Lines.{checkpoint_line, disasm_line_by, dump_line, list_line, process_line, register_line, regs_line, stats_line}
+use Rattle.report_text.specs.Lines.{checkpoint_line, disasm_line_by, dump_line, exported_text, list_line, process_line, register_line, regs_line, stats_line}
 use Rattle.command_core.specs.declared.modes.Modes.{Modes}
 use Rattle.command_core.specs.declared.TheConstants.{WORD_BYTES}
 use Rattle.command_core.specs.declared.session.Counts.{Counts}
@@ -23,6 +24,7 @@ use Rattle.command_core.specs.State.{Checkpoint, Registry, State, registry_of, w
 use Rattle.command_core.specs.Sessions.{InSession}
 use Rattle.command_core.specs.Rows.{Changed, Row, change_by, may_want_memory, refuses}
 use Rattle.command_core.specs.Changes.{LedgerTold, TellsCounts, TellsDedup, TellsDedupAll, asm_row, change_row, load_row}
+use Rattle.command_core.specs.Images.{exported_by, import_row}
 use Rattle.command_core.specs.Deduplication.{dedup_all_row, dedup_row}
 use Rattle.command_core.specs.Looks.{counts_of}
 use Rattle.process_runs.specs.Turns.{InRun, Progress, begun_alone, by_turns, left_of, ran_from, ran_text}
@@ -195,6 +197,11 @@ abbrev pub prints_of : {S : Type 0} → ℕ → ℕ → (Memory → List ℕ) �
 prints_of address n text None state = told false (refuses NoProcess state)
 prints_of address n text (Some process) state = prints_read text process.memory (first_denied process.memory 0 address n) state
 
+-- the image of a checkpoint over another one: a line that tells how long it is, and its lines
+abbrev pub prints_image : {S : Type 0} → List ℕ → List ℕ → Result (List ℕ) Code → S → Performed S
+prints_image name base (Ok image) state = text_printed true (exported_text name base image) state
+prints_image name base (Err code) state = told false (refuses code state)
+
 -- What the commands come to by the rules of a machine.
 module _ {S : Type 0} (by : Rules S) where
   -- a change, by its row
@@ -206,6 +213,9 @@ module _ {S : Type 0} (by : Rules S) where
 
   abbrev pub asm_told : List ℕ → S → Performed S
   asm_told text state = row_told (asm_row text (by.registry state)) state
+
+  abbrev pub import_told : List ℕ → List ℕ → List ℕ → S → Performed S
+  import_told name base file state = row_told (import_row name base file (by.registry state)) state
 
   abbrev pub change_told : List ℕ → Command → S → Performed S
   change_told file command state = row_told (change_row file command (by.registry state)) state
@@ -258,6 +268,9 @@ module _ {S : Type 0} (by : Rules S) where
   disasm_done extension p address words state =
       prints_of address (WORD_BYTES * words) (λ memory. disasm_text extension memory address words) (process_in p state) state
 
+  abbrev pub export_done : List ℕ → List ℕ → S → Performed S
+  export_done name base state = prints_image name base (exported_by name base (by.registry state).checkpoints) state
+
   -- What each command comes to, with the file that it has, by what is fixed for the run: turns and printed lines, and the
   -- changes, each by its row.
   abbrev pub performed_by : Modes → List ℕ → Command → S → Performed S
@@ -271,12 +284,14 @@ module _ {S : Type 0} (by : Rules S) where
   performed_by modes file (command.Regs p) = regs_done p
   performed_by modes file (command.Dump p address count) = dump_done p address count
   performed_by modes file (command.Disasm p address words) = disasm_done modes.extension p address words
+  performed_by modes file (command.Export name base) = export_done name base
   performed_by modes file (Load name) = change_told file (Load name)
   performed_by modes file (Asm name) = change_told file (Asm name)
   performed_by modes file (command.Fork p) = change_told file (command.Fork p)
   performed_by modes file (command.Checkpoint p name) = change_told file (command.Checkpoint p name)
   performed_by modes file (command.Restore p name) = change_told file (command.Restore p name)
   performed_by modes file (command.Forget name) = change_told file (command.Forget name)
+  performed_by modes file (command.Import name base from) = change_told file (command.Import name base from)
   performed_by modes file (command.Speculate p) = change_told file (command.Speculate p)
   performed_by modes file (command.Commit p) = change_told file (command.Commit p)
   performed_by modes file (command.Discard p) = change_told file (command.Discard p)

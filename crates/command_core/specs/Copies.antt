@@ -1,7 +1,7 @@
 use Rattle.std.specs.Prelude.{◌≡◌, ℕ, Bool, true, false, List, [], ◌∷◌, Option, Some, None, Result, Ok, Err}
 use Rattle.std.specs.FinMap.{empty, get, insert, remove}
 use Rattle.ovl_io.specs.declared.process_state.ProcessState.{ProcessState}
-use Rattle.ledger.specs.Events.{Copy}
+use Rattle.ledger.specs.Events.{Event, Copy}
 use Rattle.overlay_memory.specs.declared.error.SpaceError.{SpaceError}
 use Rattle.overlay_memory.specs.declared.error.SpaceError.TheVariants.{Full, Memory}
 use Rattle.space_maps.specs.Spaces.{space_in}
@@ -39,16 +39,23 @@ abbrev pub GivesNumber : List (Option Code) → Option ℕ → Result ℕ Code �
 GivesNumber refusals next (Ok n) = (first_refusal refusals ≡ None) × (next ≡ Some n)
 GivesNumber refusals next (Err code) = first_refusal refusals ≡ Some code
 
--- How a copy of a space comes out: full exactly where the units of the ledger after it exceed the limit, and then nothing changes. Want
--- of memory comes only where they don't, and then there are the spaces and processes that there were.
+-- How a space that an event of the ledger makes comes out: full exactly where the units of the ledger after it exceed the limit, and then
+-- nothing changes. Want of memory comes only where they don't, and then there are the spaces and processes that there were.
+abbrev pub EventFails : Event → Machine → Machine → SpaceError → Type 0
+EventFails event old new (Full needed limit) =
+    (needed ≡ event_needs event (wholes old)) × (limit ≡ unit_limit (wholes old).frames) × (is_event_full event (wholes old) ≡ true) × (new ≡ old)
+EventFails event old new Memory = (is_event_full event (wholes old) ≡ false) × IsAsBefore old new
+
+abbrev pub EventEnds : {T : Type 0} → Event → Machine → Machine → Type 0 → Result T SpaceError → Type 0
+EventEnds event old new Done (Ok done) = (is_event_full event (wholes old) ≡ false) × Done
+EventEnds event old new Done (Err error) = EventFails event old new error
+
+-- and how a copy of one does
 abbrev pub CopyFails : ℕ → ℕ → Machine → Machine → SpaceError → Type 0
-CopyFails from to old new (Full needed limit) =
-    (needed ≡ event_needs (Copy from to) (wholes old)) × (limit ≡ unit_limit (wholes old).frames) × (is_event_full (Copy from to) (wholes old) ≡ true) × (new ≡ old)
-CopyFails from to old new Memory = (is_event_full (Copy from to) (wholes old) ≡ false) × IsAsBefore old new
+CopyFails from to old new error = EventFails (Copy from to) old new error
 
 abbrev pub CopyEnds : {T : Type 0} → ℕ → ℕ → Machine → Machine → Type 0 → Result T SpaceError → Type 0
-CopyEnds from to old new Done (Ok done) = (is_event_full (Copy from to) (wholes old) ≡ false) × Done
-CopyEnds from to old new Done (Err error) = CopyFails from to old new error
+CopyEnds from to old new Done result = EventEnds (Copy from to) old new Done result
 
 -- the copying machine with a process under a number, and a copy of the pages of another one, where the translations of a process go
 abbrev pub with_process_copy : Option ℕ → ℕ → ℕ → Process → Wholes → Wholes

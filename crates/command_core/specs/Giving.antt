@@ -3,7 +3,7 @@ use Rattle.breakpoints.specs.Breakpoints.{Breaks}
 use Rattle.machine_core.specs.Machine.{Machine}
 use Rattle.machine_core.specs.Load.{IsAsBefore}
 use Rattle.report_text.specs.declared.answer.Answer.{Answer}
-use Rattle.report_text.specs.declared.answer.Answer.TheVariants.{Done, Loaded, Forked, Saved, Shared, Refused, Full, Memory}
+use Rattle.report_text.specs.declared.answer.Answer.TheVariants.{Done, Loaded, Forked, Saved, Imported, Shared, Refused, Full, Memory}
 use Rattle.command_core.specs.State.{AreLikeStates, Checkpoint, Registry, State, registry_of}
 use Rattle.command_core.specs.Sessions.{InSession, KeepsSession, session_state}
 use Rattle.command_core.specs.Rows.{Changed, Row, change_by, may_want_memory}
@@ -50,6 +50,7 @@ is_full_answer Done = false
 is_full_answer (Loaded p pages entry) = false
 is_full_answer (Forked p q) = false
 is_full_answer (Saved p name space) = false
+is_full_answer (Imported name space pages) = false
 is_full_answer (Shared pages) = false
 is_full_answer (Refused code) = false
 is_full_answer (Full units limit) = true

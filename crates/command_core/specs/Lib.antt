@@ -1,5 +1,5 @@
 -- In reading order: the copying machine's state, what a session keeps, what a change is and comes to, what a fork makes, what speculation
--- and promotion make of a process, checkpoints, what the debugger changes, all changes, what puts pages on others, the turns of processes, what each command comes to
+-- and promotion make of a process, checkpoints and their images, what the debugger changes, all changes, what puts pages on others, the turns of processes, what each command comes to
 -- and by which cases, and what is looked up.
 pub mod State
 pub mod Sessions
@@ -12,6 +12,7 @@ pub mod Copies
 pub mod ProcessChanges
 pub mod Mapping
 pub mod Checkpoints
+pub mod Images
 pub mod Debugging
 pub mod Changes
 pub mod Deduplication

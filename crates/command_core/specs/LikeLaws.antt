@@ -1,4 +1,4 @@
-use Rattle.std.specs.Prelude.{◌≡◌, ℕ, ◌-◌, ◌*◌, nat_lt, ◌&&◌, Bool, true, false, cond, List, ◌++◌, flat_map, length, Option, Some, None, refl}
+use Rattle.std.specs.Prelude.{◌≡◌, ℕ, ◌-◌, ◌*◌, nat_lt, ◌&&◌, Bool, true, false, cond, List, ◌++◌, flat_map, length, Option, Some, None, Result, Ok, Err, refl}
 use Rattle.std.proofs.Common.{sym, ap, subst, ◌∙◌}
 use Rattle.std.specs.Option.{is_some, option_map_or}
 use Rattle.std.specs.FinMap.{entries, get}
@@ -11,7 +11,7 @@ use Rattle.machine_core.specs.Process.{Process, runs}
 use Rattle.machine_core.specs.Machine.{AreLike, Processes, Wholes, unit_limit}
 use Rattle.machine_core.specs.Laws.{like_chain, like_itself}
 use Rattle.report_text.specs.declared.answer.Answer.{Answer}
-use Rattle.report_text.specs.declared.answer.Answer.TheVariants.{Done, Loaded, Forked, Saved, Shared, Refused, Full, Memory}
+use Rattle.report_text.specs.declared.answer.Answer.TheVariants.{Done, Loaded, Forked, Saved, Imported, Shared, Refused, Full, Memory}
 use Rattle.report_text.specs.declared.answer.Code.{Code}
 use Rattle.report_text.specs.declared.answer.Code.TheVariants.{Ended}
 use Rattle.report_text.specs.Lines.{list_line}
@@ -27,10 +27,11 @@ use Rattle.command_core.specs.Changes.{LedgerTold, TellsCounts, TellsDedup, Tell
 use Rattle.process_runs.specs.LikeLaws.{like_text, like_ran}
 use Rattle.process_runs.specs.Turns.{Progress, begun_alone, by_turns, ran_from, ran_text}
 use Rattle.command_core.specs.Looks.{counts_of}
-use Rattle.command_core.specs.Commands.{Performed, change_told, checkpoint_text, counts_text, disasm_text, dump_text, exec_done, exec_turns, ledger_done, list_head, list_text, performed, prints_of, prints_read, process_text, regs_done, regs_of, row_told, stats_text, step_done, steps, takes_turns, told, rules}
-use Rattle.command_core.specs.CommandCases.{GoesBy, ByExec, ByRun, ByStep, ByList, ByRegs, ByDump, ByDisasm, ByLedger, ByChange, goes_by}
+use Rattle.command_core.specs.Commands.{Performed, change_told, checkpoint_text, counts_text, disasm_text, dump_text, exec_done, exec_turns, export_done, ledger_done, list_head, list_text, performed, prints_image, prints_of, prints_read, process_text, regs_done, regs_of, row_told, stats_text, step_done, steps, takes_turns, told, rules}
+use Rattle.command_core.specs.CommandCases.{GoesBy, ByExec, ByRun, ByStep, ByList, ByRegs, ByDump, ByDisasm, ByExport, ByLedger, ByChange, goes_by}
 use Rattle.command_core.specs.Deduplication.{dedup_all_row, dedup_row}
 use Rattle.command_core.specs.DeduplicationLaws.{dedup_all_same, dedup_same}
+use Rattle.command_core.specs.Images.{exported_by}
 use Rattle.command_core.specs.Standing.{GivesAs}
 
 -- States that differ in the numbers of origins alone come to the same texts, and stay so.
@@ -149,6 +150,7 @@ module _ (row : State → Row) (same : IsSameRow row) (old new : InSession) wher
   gives_as (Loaded p pages entry) comes = gives_each (Loaded p pages entry) comes
   gives_as (Forked p q) comes = gives_each (Forked p q) comes
   gives_as (Saved p name space) comes = gives_each (Saved p name space) comes
+  gives_as (Imported name space pages) comes = gives_each (Imported name space pages) comes
   gives_as (Shared pages) comes = gives_each (Shared pages) comes
   gives_as (Refused code) comes = gives_each (Refused code) comes
   gives_as (Full units limit) comes = gives_each (Full units limit) comes
@@ -185,6 +187,7 @@ like_exec_turns calls turns (Loaded p pages entry) a b like = like_takes (begun_
 like_exec_turns calls turns Done a b like = record { text = refl; after = like; wants = refl }
 like_exec_turns calls turns (Forked p q) a b like = record { text = refl; after = like; wants = refl }
 like_exec_turns calls turns (Saved p name space) a b like = record { text = refl; after = like; wants = refl }
+like_exec_turns calls turns (Imported name space pages) a b like = record { text = refl; after = like; wants = refl }
 like_exec_turns calls turns (Shared pages) a b like = record { text = refl; after = like; wants = refl }
 like_exec_turns calls turns (Refused code) a b like = record { text = refl; after = like; wants = refl }
 like_exec_turns calls turns (Full units limit) a b like = record { text = refl; after = like; wants = refl }
@@ -246,6 +249,16 @@ like_prints p address n text a b like =
     by_found None = record { text = refl; after = like; wants = refl }
     by_found (Some process) = by_denied process.memory (first_denied process.memory 0 address n)
 
+-- the image of a checkpoint
+like_export : (name base : List ℕ) (a b : State) → AreLikeStates a b → AreLikePerformed (export_done rules name base a) (export_done rules name base b)
+like_export name base a b like =
+    subst (λ (xs : List Checkpoint). AreLikePerformed (export_done rules name base a) (prints_image name base (exported_by name base xs) b)) like.checkpoints
+    (by_result (exported_by name base a.checkpoints))
+  where
+    by_result : (r : Result (List ℕ) Code) → AreLikePerformed (prints_image name base r a) (prints_image name base r b)
+    by_result (Ok image) = record { text = refl; after = like; wants = refl }
+    by_result (Err code) = record { text = refl; after = like; wants = refl }
+
 -- the counts
 pub counts_same : (a b : Wholes) → AreLike a b → counts_of a ≡ counts_of b
 counts_same a b like = λ i. record {
@@ -281,6 +294,7 @@ like_performed modes file command a b like = by_case command (goes_by rules rule
     by_case _ (ByRegs p) = like_regs p a b like
     by_case _ (ByDump p address count) = like_prints p address count (λ memory. dump_text memory address count) a b like
     by_case _ (ByDisasm p address words) = like_prints p address (WORD_BYTES * words) (λ memory. disasm_text modes.extension memory address words) a b like
+    by_case _ (ByExport name base) = like_export name base a b like
     by_case _ (ByLedger c tells here there is) =
         subst (λ x. AreLikePerformed x (performed modes file c b)) (sym (here a))
         (subst (λ y. AreLikePerformed (ledger_done tells a) y) (sym (here b)) (like_ledger_done tells a b like))

@@ -1,4 +1,4 @@
-use Rattle.std.specs.Prelude.{◌≡◌, ℕ, zero, suc, ◌+◌, ◌-◌, ◌*◌, Bool, true, false, cond, List, [], ◌∷◌, ◌++◌, flat_map, Option, Some, None, refl}
+use Rattle.std.specs.Prelude.{◌≡◌, ℕ, zero, suc, ◌+◌, ◌-◌, ◌*◌, Bool, true, false, cond, List, [], ◌∷◌, ◌++◌, flat_map, Option, Some, None, Result, Ok, Err, refl}
 use Rattle.std.proofs.Common.{sym, ap, subst, ◌∙◌, append_assoc}
 use Rattle.std.specs.Option.{is_some, option_map_or}
 use Rattle.std.specs.FinMap.{get}
@@ -8,11 +8,12 @@ use Rattle.rv_mul.specs.Tables.{table_of}
 use Rattle.machine_core.specs.Process.{Process, is_speculating, runs}
 use Rattle.machine_core.specs.Machine.{unit_limit}
 use Rattle.report_text.specs.declared.answer.Answer.{Answer}
-use Rattle.report_text.specs.declared.answer.Answer.TheVariants.{Done, Loaded, Forked, Saved, Shared, Refused, Full, Memory}
+use Rattle.report_text.specs.declared.answer.Answer.TheVariants.{Done, Loaded, Forked, Saved, Imported, Shared, Refused, Full, Memory}
 use Rattle.report_text.specs.declared.answer.Code.{Code}
 use Rattle.report_text.specs.declared.answer.Code.TheVariants.{Ended, NoProcess, Unmapped}
 use Rattle.report_text.specs.Answers.{answer_text, stop_text}
-use Rattle.report_text.specs.FullLines.{AreWholeLines, answer_lines, answer_shows, behind_lines, ends_checkpoint, ends_disasm_by, ends_dump, ends_list, ends_process, ends_register, ends_regs, ends_stats, has_full_line, lines_both, no_lines, stop_lines, turn_lines}
+use Rattle.report_text.specs.Lines.{exported_text}
+use Rattle.report_text.specs.FullLines.{AreWholeLines, answer_lines, answer_shows, behind_lines, ends_checkpoint, ends_disasm_by, ends_dump, ends_list, ends_process, ends_register, ends_regs, ends_stats, exported_lines, has_full_line, lines_both, no_lines, stop_lines, turn_lines}
 use Rattle.script_text.specs.declared.command.Command.{Command}
 use Rattle.command_core.specs.declared.modes.Modes.{Modes}
 use Rattle.command_core.specs.declared.TheConstants.{WORD_BYTES}
@@ -21,9 +22,10 @@ use Rattle.command_core.specs.Rows.{Changed, MemoryTaken, Row, TakesFirst, Takes
 use Rattle.command_core.specs.Changes.{LedgerTold, TellsCounts, TellsDedup, TellsDedupAll, change_row, load_row, told_by_ledger}
 use Rattle.process_runs.specs.Turns.{Progress, Ran, begun_alone, by_turns, ran_from, ran_text}
 use Rattle.process_runs.specs.UnboundedLaws.{same_ran, same_text}
-use Rattle.command_core.specs.Commands.{Performed, change_told, checkpoint_text, checkpoints_text, disasm_text, dump_from, dump_text, exec_done, exec_turns, ledger_done, list_head, list_text, performed, performed_by, text_printed, prints_of, prints_read, process_text, processes_text, registers_from, regs_head, regs_of, regs_text, row_told, rules, stats_text, steps, takes_turns, told}
+use Rattle.command_core.specs.Commands.{Performed, change_told, checkpoint_text, checkpoints_text, disasm_text, dump_from, dump_text, exec_done, exec_turns, ledger_done, list_head, list_text, performed, performed_by, text_printed, prints_image, prints_of, prints_read, process_text, processes_text, registers_from, regs_head, regs_of, regs_text, row_told, rules, stats_text, steps, takes_turns, told}
+use Rattle.command_core.specs.Images.{exported_by}
 use Rattle.command_core.specs.Deduplication.{dedup_all_row, dedup_row}
-use Rattle.command_core.specs.CommandCases.{GoesBy, ByExec, ByRun, ByStep, ByList, ByRegs, ByDump, ByDisasm, ByLedger, ByChange, goes_by}
+use Rattle.command_core.specs.CommandCases.{GoesBy, ByExec, ByRun, ByStep, ByList, ByRegs, ByDump, ByDisasm, ByExport, ByLedger, ByChange, goes_by}
 use Rattle.command_core.specs.Unbounded.{Unbounded, change_unbounded, does_row, next_told, takes_unbounded, unbounded, wants_unbounded}
 
 -- As long as no line says `full`, the copying machine says and does what the unbounded one does.
@@ -113,6 +115,7 @@ module _ (counts : List (List ℕ)) (behind : List ℕ) where
   same_exec_turns calls turns Done state none = same_printed false [] state
   same_exec_turns calls turns (Forked p q) state none = same_printed false [] state
   same_exec_turns calls turns (Saved p name space) state none = same_printed false [] state
+  same_exec_turns calls turns (Imported name space pages) state none = same_printed false [] state
   same_exec_turns calls turns (Shared pages) state none = same_printed false [] state
   same_exec_turns calls turns (Refused code) state none = same_printed false [] state
   same_exec_turns calls turns (Full units limit) state none = same_printed false [] state
@@ -142,6 +145,11 @@ module _ (counts : List (List ℕ)) (behind : List ℕ) where
       → PerformedSame counts (prints_of address n text o state) (prints_of address n text o (unbounded_of counts state))
   same_prints address n text None state = same_refused NoProcess state
   same_prints address n text (Some process) state = same_read text process.memory (first_denied process.memory 0 address n) state
+
+  same_image : (name base : List ℕ) (r : Result (List ℕ) Code) (state : State)
+      → PerformedSame counts (prints_image name base r state) (prints_image name base r (unbounded_of counts state))
+  same_image name base (Ok image) state = same_printed true (exported_text name base image) state
+  same_image name base (Err code) state = same_refused code state
 
 -- A load, and the turns that follow it.
 module _ (counts : List (List ℕ)) (behind : List ℕ) (calls : Bool) (file : List ℕ) (turns : ℕ) (state : State) where
@@ -236,6 +244,7 @@ module _ (counts : List (List ℕ)) (behind : List ℕ) (modes : Modes) (file : 
       same_prints counts behind address count (λ memory. dump_text memory address count) (get state.wholes.processes p) state
   same_case _ (ByDisasm p address words) none =
       same_prints counts behind address (WORD_BYTES * words) (λ memory. disasm_text modes.extension memory address words) (get state.wholes.processes p) state
+  same_case _ (ByExport name base) none = same_image counts behind name base (exported_by name base state.checkpoints) state
   same_case _ (ByLedger c tells here there is) none = same_given c tells here there is
   same_case _ (ByChange c here there is) none = same_changed c here there is none
 
@@ -306,10 +315,15 @@ exec_turns_lines calls turns (Loaded p pages entry) state = ran_lines (ran_from 
 exec_turns_lines calls turns Done state = no_lines
 exec_turns_lines calls turns (Forked p q) state = no_lines
 exec_turns_lines calls turns (Saved p name space) state = no_lines
+exec_turns_lines calls turns (Imported name space pages) state = no_lines
 exec_turns_lines calls turns (Shared pages) state = no_lines
 exec_turns_lines calls turns (Refused code) state = no_lines
 exec_turns_lines calls turns (Full units limit) state = no_lines
 exec_turns_lines calls turns Memory state = no_lines
+
+image_lines : (name base : List ℕ) (r : Result (List ℕ) Code) (state : State) → AreWholeLines (prints_image name base r state).text
+image_lines name base (Ok image) state = exported_lines name base image
+image_lines name base (Err code) state = answer_lines (Refused code)
 
 stats_lines : (state : State) → AreWholeLines (stats_text state)
 unfolding stats_text
@@ -336,6 +350,7 @@ performed_lines modes file command state = by_case command (goes_by rules rules 
     by_case _ (ByDisasm p address words) =
         prints_lines address (WORD_BYTES * words) (λ memory. disasm_text modes.extension memory address words) (λ memory. disasm_lines modes.extension memory address words)
         (get state.wholes.processes p) state
+    by_case _ (ByExport name base) = image_lines name base (exported_by name base state.checkpoints) state
     by_case _ (ByLedger c tells here there is) = subst (λ x. AreWholeLines x.text) (sym (here state)) (ledger_lines tells state)
     by_case _ (ByChange c here there is) =
         subst (λ x. AreWholeLines x.text) (sym (here state)) (answer_lines (change_by (change_row file c (registry_of state)) state).answer)

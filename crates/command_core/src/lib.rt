@@ -9,6 +9,7 @@
 //! - `forking`: a process under a second number
 //! - `saving`: checkpoints of processes, made and put back
 //! - `checkpoints`: what is kept of them, by name
+//! - `imaging`: checkpoints as images, exported and imported
 //! - `process_changes`: changes of one process that is there: speculation, promotion, pages and registers
 //! - `mapping`: pages that are mapped, and that are given up
 //! - `dedup`: pages that are put on those of another process
@@ -20,6 +21,7 @@ mod assembling;
 mod checkpoints;
 mod dedup;
 mod forking;
+mod imaging;
 mod mapping;
 mod modes;
 mod poking;
@@ -28,6 +30,7 @@ mod reading;
 mod saving;
 mod session;
 
+pub use imaging::{ExportError, MOST_EXPORTED};
 pub use modes::Modes;
 pub use process_runs::{Order, Running};
 pub use session::{CheckpointView, Counts, ProcessView, Session};

@@ -40,7 +40,7 @@ pub(crate) fn checkpoint_number(
 
 /// Enters space `q`, which was just made, under a name, with the registers and the state of a process; answers a copy of the name.
 /// After want of memory the space is gone.
-fn enter_or_drop(
+pub(crate) fn enter_or_drop(
     alloc: Global,
     machine: &mut Machine,
     checkpoints: &mut Checkpoints,

@@ -12,6 +12,7 @@ ghost use Rattle.command_core.specs.ProcessChanges.{IsFineChange, process_row};
 ghost use Rattle.command_core.specs.Debugging.{break_row, poke_row, unbreak_row};
 ghost use Rattle.command_core.specs.Checkpoints.{checkpoint_row, forget_row, on_checkpoint, restore_row};
 ghost use Rattle.command_core.specs.Changes.{CanBeTold, TakesText, answer_of, asm_row, drop_row, load_row, on_process, row_in};
+ghost use Rattle.command_core.specs.Images.{ComeBack, Exports, exported_by, import_row};
 ghost use Rattle.command_core.specs.Commands.{RunsLoaded};
 ghost use Rattle.command_core.specs.Looks.{BeginsStep, CanRead, LooksAt, LooksAtCheckpoint, NextProcess, ReadsBytes, counts_of, look_of, looked_at};
 ghost use Rattle.command_core.specs.Ample.{IsAmplyDone};
@@ -25,6 +26,7 @@ use crate::assembling::not_assembled;
 use crate::checkpoints::{Checkpoints, Kept};
 use crate::dedup::{dedup_page, dedup_pages};
 use crate::forking::{fork_number, fork_process};
+use crate::imaging::{ExportError, export_space, import_space, read_delta};
 use crate::modes::Modes;
 use crate::poking::poke;
 use crate::process_changes::{ProcessChange, change_process};
@@ -323,6 +325,75 @@ impl Session {
         Answer::Done
     }
 
+    /// Makes a checkpoint of a file of at most 16 MiB that says an image over another checkpoint, with the next number as its space: `Imported`,
+    /// or why not. `Full` exactly where it isn't refused and the units after it would exceed the limit; want of memory comes only where neither
+    /// name is a reason to refuse it. After that everything is as before.
+    pub fn import(&mut self, name: &Bytes, base: &Bytes, file: &[u8]) -> Answer
+        requires named { IsCheckpointName name.now }
+        requires based { IsCheckpointName base.now }
+        requires small { length file.now ≤ MOST_FILE_BYTES }
+        ensures gives { GivesChange (import_row name.now base.now file.now (registry_of self.old.state))
+            self.old.state result self.new.state }
+        ensures stands { GivesAs (registered (import_row name.now base.now file.now)) self.old result self.new }
+        ensures ample { IsAmplyDone (registered (import_row name.now base.now file.now)) self.old result }
+        ensures want { WantKeeps self.old result self.new }
+        ensures told { CanBeTold result }
+        ensures modes { self.new.modes ≡ self.old.modes }
+    {
+        if self.checkpoints.has(name.as_slice()) {
+            return Answer::Refused(Code::NameTaken);
+        }
+        let from = match self.checkpoints.get(base.as_slice()) {
+            None => return Answer::Refused(Code::NoCheckpoint),
+            Some(kept) => kept.space,
+        };
+        let delta = match read_delta(self.alloc, file) {
+            Ok(delta) => delta,
+            Err(answer) => return answer,
+        };
+        let q = match self.numbers.least() {
+            None => return Answer::Refused(Code::NumbersUsed),
+            Some(q) => q,
+        };
+        match import_space(
+            self.alloc,
+            &mut self.machine,
+            &mut self.checkpoints,
+            from,
+            q,
+            &delta,
+            name,
+        ) {
+            Ok(told) => {
+                self.numbers.take(q);
+                Answer::Imported(told, q, delta.pages.as_slice().len() as u32)
+            }
+            Err(error) => not_made(error),
+        }
+    }
+
+    /// The image of a checkpoint over another one; refused where one of them isn't there, and where it would have more than 4 MiB. Want of
+    /// memory comes only where it isn't refused. The lines of the image are a file from which `import`, over a checkpoint with what the
+    /// other one has, makes what this one has. Nothing changes.
+    pub fn export(&self, name: &Bytes, base: &Bytes) -> Result<Vec<u8>, ExportError>
+        requires named { IsCheckpointName name.now }
+        requires based { IsCheckpointName base.now }
+        ensures exports { Exports (λ image. image.items)
+            (exported_by name.now base.now self.now.state.checkpoints) result }
+        ensures stands { HoldsFor (λ state. Exports (λ image. image.items)
+            (exported_by name.now base.now state.checkpoints) result) self.now }
+        ensures back { IfOk result (λ image.
+            ComeBack name.now base.now self.now.state.checkpoints image.items) }
+    {
+        match self.checkpoints.get(name.as_slice()) {
+            None => Err(ExportError::Refused(Code::NoCheckpoint)),
+            Some(saved) => match self.checkpoints.get(base.as_slice()) {
+                None => Err(ExportError::Refused(Code::NoCheckpoint)),
+                Some(from) => export_space(self.alloc, &self.machine, saved, from),
+            },
+        }
+    }
+
     /// Gives up the checkpoint of a name.
     fn forget(&mut self, name: &Bytes) -> Answer
         ensures gives { GivesChange
@@ -513,6 +584,8 @@ impl Session {
             Command::Exec(_, _)
             | Command::Load(_)
             | Command::Asm(_)
+            | Command::Import(_, _, _)
+            | Command::Export(_, _)
             | Command::Run(_)
             | Command::Step(_, _)
             | Command::Regs(_)

@@ -1,5 +1,5 @@
 use Rattle.std.proofs.Common.{◌≡◌, ℕ, ◌^◌, ◌<◌, ◌≤◌, List, [], ◌++◌, length, drop, sym, ap, ◌∙◌, arith, append_assoc}
-use Rattle.std.specs.Prelude.{IfOk, Result, Ok, Err}
+use Rattle.std.specs.Prelude.{IfOk, Result, Ok, Err, Some}
 use Rattle.std.specs.Int.{w32, to_le_bytes}
 use Rattle.std.specs.List.{AllByRecursion}
 use Rattle.std.proofs.lemmas.List.{append-nil}
@@ -9,11 +9,14 @@ use Rattle.rv_execute.specs.Registers.{Registers}
 use Rattle.delta_image.specs.declared.delta.Delta.{Delta}
 use Rattle.delta_image.specs.declared.encoding.TheConstants.{MAGIC}
 use Rattle.delta_image.specs.declared.image_error.ImageError.{ImageError}
+use Rattle.delta_image.specs.declared.image_error.ImageError.TheVariants.{BadImage, Memory}
 use Rattle.delta_image.specs.Image.{image_of, pages_part, registers_part, state_part}
 use Rattle.delta_image.specs.Fine.{AreRegisters, Ascend, HasLines, IsImageOf, IsPlain, IsState}
 use Rattle.delta_image.specs.Decoding.{AreManyPages, Decodes, DecodesAlone}
+use Rattle.delta_image.specs.Said.{SaysDelta}
+use Rattle.delta_image.specs.SaidLaws.{says_delta, says_none}
 use Rattle.delta_image.proofs.Numbers.{one32}
-use Rattle.delta_image.proofs.Pages.{one_pages, with_lines, without_lines}
+use Rattle.delta_image.proofs.Pages.{with_lines, without_lines}
 use Rattle.delta_image.proofs.Registers.{one_registers}
 use Rattle.delta_image.proofs.States.{one_state}
 
@@ -80,18 +83,18 @@ put_image delta one two three four five n state regs few plain whole first secon
 -- No two fine deltas have one image.
 pub one_image : (bytes : List ℕ) (a b : Delta) → IsImageOf bytes a → IsImageOf bytes b → a ≡ b
 one_image bytes a b one other =
-    let e : MAGIC ++ (state_part a.state ++ behind_state a) ≡ MAGIC ++ (state_part b.state ++ behind_state b) =
-    sym (image_split a) ∙ sym one.1 ∙ other.1 ∙ image_split b in
-    let state = one_state a.state b.state (behind_state a) (behind_state b) one.0.state other.0.state (ap (drop 4) e) in
-    let regs = one_registers a.regs b.regs (behind_registers a) (behind_registers b) one.0.regs other.0.regs state.1 in
-    let count = one32 (length a.pages) (length b.pages) (pages_part a.pages) (pages_part b.pages) (omega (arith, one.0.few)) (omega (arith, other.0.few)) regs.1 in
-    let pages = one_pages 0 a.pages b.pages [] [] one.0.pages other.0.pages count.0
-    (append-nil (pages_part a.pages) ∙ count.1 ∙ sym (append-nil (pages_part b.pages))) in
-    λ i. record { state = state.0 i; regs = regs.0 i; pages = pages.0 i }
+    let same : Some a ≡ Some b = sym (says_delta bytes a one) ∙ says_delta bytes b other in
+    cc
 
 pub decodes_alone : (bytes : List ℕ) (r : Result Delta ImageError) → Decodes bytes r → DecodesAlone bytes r
 decodes_alone bytes (Ok delta) is = λ other h. one_image bytes other delta h is
 decodes_alone bytes (Err error) is = tt
+
+-- What is decoded is what the bytes say.
+pub decodes_said : (bytes : List ℕ) (r : Result Delta ImageError) → Decodes bytes r → SaysDelta bytes r
+decodes_said bytes (Ok delta) is = says_delta bytes delta is
+decodes_said bytes (Err BadImage) none = says_none bytes none
+decodes_said bytes (Err Memory) none = tt
 
 -- What is decoded may be encoded.
 

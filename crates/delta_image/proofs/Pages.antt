@@ -14,10 +14,10 @@ use Rattle.delta_image.specs.Image.{head_part, lines_part, page_part, pages_part
 use Rattle.delta_image.specs.Fine.{Ascend, HasLines, IsPage, IsPlain, IsWord, are_perms}
 use Rattle.delta_image.specs.Decoding.{AreLinesOf, IsPageFrom, is_number}
 use Rattle.delta_image.specs.LengthLaws.{lines_length, page_length}
+use Rattle.delta_image.specs.VectorLaws.{same_words, word_fits}
 use Rattle.delta_image.proofs.Lines.{one_lines}
 use Rattle.delta_image.proofs.Lists.{all_push}
 use Rattle.delta_image.proofs.Numbers.{one32, one64}
-use Rattle.delta_image.proofs.Vectors.{same_words, word_fits}
 
 -- The part of one page.
 

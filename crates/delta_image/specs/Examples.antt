@@ -1,4 +1,4 @@
-use Rattle.std.specs.Prelude.{◌≡◌, ℕ, [], ◌∷◌, ◌++◌, replicate, refl}
+use Rattle.std.specs.Prelude.{◌≡◌, ℕ, [], ◌∷◌, ◌++◌, replicate, Some, None, refl}
 use Rattle.delta_image.specs.declared.encoding.TheConstants.{MAGIC, PAGE_HEAD_BYTES}
 use Rattle.ovl_io.specs.declared.process_state.FaultKind.TheVariants.{Break}
 use Rattle.ovl_io.specs.declared.process_state.ProcessState.TheVariants.{Running, Exited, Faulted}
@@ -6,6 +6,8 @@ use Rattle.rv_execute.specs.Registers.{Registers}
 use Rattle.delta_image.specs.declared.delta.Delta.{Delta}
 use Rattle.delta_image.specs.Line.{Line}
 use Rattle.delta_image.specs.Image.{head_part, image_of, state_part}
+use Rattle.delta_image.specs.FineTest.{is_fine}
+use Rattle.delta_image.specs.Said.{delta_in, delta_of, registers_in, words_in}
 
 -- The constants of an image as numbers.
 
@@ -50,3 +52,12 @@ empty = record { state = Running; regs = registers; pages = [] }
 pub empty_is : image_of empty
     ≡ (0x4F ∷ 0x56 ∷ 0x4C ∷ 0x31 ∷ 0 ∷ 0x78 ∷ 0 ∷ 1 ∷ 0 ∷ 0 ∷ 0 ∷ 0 ∷ 0 ∷ []) ++ replicate 8 0 ++ (0xF0 ∷ 0xFF ∷ 0xFF ∷ 0xFF ∷ 0x3F ∷ []) ++ replicate 239 0
 empty_is = refl
+
+-- it is read back; without bytes there is none
+pub empty_said : delta_of (image_of empty) ≡ Some empty
+unfolding delta_of delta_in registers_in words_in is_fine
+empty_said = refl
+
+pub nothing_said : delta_of [] ≡ None
+unfolding delta_of delta_in registers_in words_in is_fine
+nothing_said = refl

@@ -7,6 +7,7 @@ ghost use Rattle.delta_image.specs.declared.encoding.TheConstants.{MAGIC};
 ghost use Rattle.delta_image.specs.Image.{lines_part, page_part, pages_part, registers_part, state_part};
 ghost use Rattle.delta_image.specs.Fine.{AreRegisters, Ascend, IsPlain, IsState, IsWord, are_perms};
 ghost use Rattle.delta_image.specs.Decoding.{AreLinesOf, AreManyPages, Decodes, DecodesAlone, IsKind, IsPageFrom, Reads, is_number};
+ghost use Rattle.delta_image.specs.Said.{SaysDelta};
 
 use crate::delta::{Delta, DeltaPage};
 use crate::delta_lines::DeltaLines;
@@ -202,6 +203,7 @@ pub fn decode(alloc: Global, bytes: &[u8]) -> Result<Delta, ImageError>
     ensures only { DecodesAlone bytes.now result }
     ensures few { IfOk result (λ d. length d.pages ≤ MOST_SPACE_PAGES) }
     ensures pages { IfOk result (λ d. Ascend IsPlain 0 d.pages) }
+    ensures said { SaysDelta bytes.now result }
 {
     image_at(alloc, bytes)
 }

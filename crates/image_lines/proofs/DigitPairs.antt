@@ -1,36 +1,15 @@
-use Rattle.std.proofs.Common.{◌≡◌, ℕ, ◌+◌, ◌*◌, ◌/◌, ◌%◌, ◌<◌, ◌≤◌, cond, Bool, Some, None, List, [], ◌∷◌, ◌++◌, length, drop, refl, sym, ap, ◌∙◌, inl, inr, ◌⊎◌, ◌-◌, arith, append_assoc, length-append}
+use Rattle.std.proofs.Common.{◌≡◌, ℕ, ◌+◌, ◌*◌, ◌/◌, ◌%◌, ◌<◌, ◌≤◌, Some, None, List, [], ◌∷◌, ◌++◌, length, drop, refl, sym, ap, ◌∙◌, inl, inr, ◌⊎◌, ◌-◌, arith, append_assoc, length-append}
 use Rattle.std.specs.Prelude.{codes}
 use Rattle.std.specs.List.{AllByRecursion}
-use Rattle.std.proofs.lemmas.Bool.{cases_lt, le-ltb, lt-ltb}
+use Rattle.std.proofs.lemmas.Bool.{cases_lt}
 use Rattle.std.proofs.lemmas.List.{flat_map_more}
-use Rattle.hex.specs.Hex.{encode_lower, encode_with}
 use Rattle.image_lines.specs.Digits.{byte_digits, bytes_digits, digit}
-use Rattle.image_lines.specs.DigitLaws.{digit_is}
+use Rattle.image_lines.specs.DigitLaws.{digit_at, digit_ends, digit_high, digit_low}
 use Rattle.image_lines.specs.Lines.{IsByte, IsPiece, image_line}
+use Rattle.image_lines.specs.PrintedLaws.{line_splits}
 use Rattle.image_lines.specs.Reading.{Begins, HasNoByte, HaveBytes, IsByteOf, IsDigit, ReadsBytes, ReadsLine}
 
--- Digits: where each lies among the characters.
-
-pub digit_low : (d : ℕ) → d < 10 → digit d ≡ 48 + d
-digit_low d lt = digit_is d (omega (arith, lt)) ∙ ap (λ (b : Bool). cond b (48 + d) (87 + d)) (lt-ltb d 10 lt)
-
-pub digit_high : (d : ℕ) → 10 ≤ d → d < 16 → digit d ≡ 87 + d
-digit_high d le lt = digit_is d lt ∙ ap (λ (b : Bool). cond b (48 + d) (87 + d)) (le-ltb d 10 le)
-
--- where a digit lies: from 0 to 9, or from a to f
-pub digit_at : (d : ℕ) → d < 16 → ((48 ≤ digit d) × (digit d ≤ 57)) ⊎ ((97 ≤ digit d) × (digit d ≤ 102))
-digit_at d lt =
-    elim (cases_lt d 10) [
-      | inl low ↦ inl (omega (arith, digit_low d low), omega (arith, digit_low d low, low))
-      | inr high ↦ inr (omega (arith, digit_high d high lt, high), omega (arith, digit_high d high lt, lt))
-    ]
-
-pub digit_ends : (d : ℕ) → d < 16 → (48 ≤ digit d) × (digit d ≤ 102)
-digit_ends d lt =
-    elim (digit_at d lt) [
-      | inl low ↦ (low.0, omega (arith, low.1))
-      | inr high ↦ (omega (arith, high.0), high.1)
-    ]
+-- Digits.
 
 pub one_digit : (d e : ℕ) → d < 16 → e < 16 → digit d ≡ digit e → d ≡ e
 one_digit d e lt less same =
@@ -118,17 +97,6 @@ byte_more old new text rest after b have lt next = record {
 }
 
 -- A line.
-
-digits_are : (bytes : List ℕ) → encode_lower bytes ≡ bytes_digits bytes
-unfolding encode_with
-digits_are [] = refl
-digits_are (b ∷ bytes) = λ i. digit (b / 16) ∷ digit (b % 16) ∷ digits_are bytes i
-
-pub line_splits : (piece rest : List ℕ) → image_line piece ++ rest ≡ codes "image " ++ (bytes_digits piece ++ 10 ∷ rest)
-unfolding image_line
-line_splits piece rest =
-    ap (λ (t : List ℕ). (codes "image " ++ (t ++ 10 ∷ [])) ++ rest) (digits_are piece)
-    ∙ ap (λ (t : List ℕ). codes "image " ++ t) (append_assoc (bytes_digits piece) (10 ∷ []) rest)
 
 pub no_word : (old new text : List ℕ) → Begins (codes "image ") text None → ReadsLine old new text None
 no_word old new text none = λ piece rest is e. none (bytes_digits piece ++ 10 ∷ rest) (e ∙ line_splits piece rest)

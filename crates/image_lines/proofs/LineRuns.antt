@@ -1,10 +1,12 @@
 use Rattle.std.proofs.Common.{◌≡◌, ℕ, ◌+◌, ◌/◌, ◌<◌, ◌≤◌, List, [], ◌∷◌, ◌++◌, length, drop, refl, sym, ap, ◌∙◌, inl, inr, ◌⊎◌, arith, append_assoc, length-append}
 use Rattle.std.specs.List.{AllByRecursion}
 use Rattle.std.proofs.lemmas.List.{append-nil, flat_map_more, length_push}
-use Rattle.image_lines.specs.Digits.{bytes_digits, digit}
+use Rattle.image_lines.specs.Digits.{digit}
 use Rattle.image_lines.specs.Lines.{ArePieces, IsPiece, IsWhole, bytes_of, image_line, lines_of}
 use Rattle.image_lines.specs.Reading.{HasNoByte, IsFirstBad}
-use Rattle.image_lines.proofs.DigitPairs.{digit_ends, line_splits, one_run}
+use Rattle.image_lines.specs.DigitLaws.{digit_ends}
+use Rattle.image_lines.specs.PrintedLaws.{line_long, line_splits}
+use Rattle.image_lines.proofs.DigitPairs.{one_run}
 
 -- Lines, one behind the other.
 
@@ -20,9 +22,6 @@ one_line p q r s one other e =
     let behind = ap (drop 6) (sym (line_splits p r) ∙ e ∙ line_splits q s) in
     let parts = one_run p q (10 ∷ r) s one.each other.each (end_is_no_byte r) behind in
     (parts.0, ap (drop 1) parts.1)
-
-pub line_long : (piece rest : List ℕ) → length rest < length (image_line piece ++ rest)
-line_long piece rest = omega (arith, ap length (line_splits piece rest), length-append (bytes_digits piece) (10 ∷ rest))
 
 pub gets_shorter : (text piece rest : List ℕ) → text ≡ image_line piece ++ rest → length rest < length text
 gets_shorter text piece rest e = omega (arith, ap length e, line_long piece rest)

@@ -4,6 +4,7 @@ ghost use Rattle.std.specs.Prelude.{◌≤◌, ◌∷◌, [], length, codes, IfO
 ghost use Rattle.std.specs.Option.{option_map};
 ghost use Rattle.sizes.specs.declared.TheConstants.{MOST_FILE_BYTES};
 ghost use Rattle.image_lines.specs.Reading.{Begins, ReadsBack, ReadsLine, ReadsLines};
+ghost use Rattle.image_lines.specs.Said.{SaysLines};
 
 use crate::digits::read_bytes;
 use crate::lines_error::LinesError;
@@ -63,6 +64,7 @@ pub fn read_lines(alloc: Global, file: &[u8]) -> Result<Vec<u8>, LinesError>
     requires { length file.now ≤ MOST_FILE_BYTES }
     ensures lines { ReadsLines (λ v. v.items) file.now result }
     ensures printed { ReadsBack (λ v. v.items) file.now result }
+    ensures said { SaysLines (λ v. v.items) file.now result }
 {
     lines_of(alloc, file)
 }

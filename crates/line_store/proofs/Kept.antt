@@ -4,7 +4,7 @@ use Rattle.std.proofs.lemmas.List.{length-append, length-replicate, length-take-
 use Rattle.std.proofs.lemmas.List.Edits.{length-paste, drop-paste}
 use Rattle.std.proofs.lemmas.Slice.{put_mid-paste}
 use Rattle.std.proofs.VecSteps.Gaps.{all_new}
-use Rattle.std.specs.List.{copy_within, refill}
+use Rattle.std.specs.List.{refill}
 use Rattle.line_store.specs.Lines.{zero_lines, with_copied, with_put}
 use Rattle.line_store.specs.Kept.{kept_lines, EndsInZero, AreLinesKept}
 
@@ -97,12 +97,11 @@ set_same first count at w h =
     ∙ sym (set-append_left first (zero_lines (count - length first)) at w h)
 
 -- lines are copied, through a slice of those kept
-pub copied : (first seen written : List (List ℕ)) (made from to n : ℕ) → made ≡ length first → seen ≡ first → length written ≡ length seen
-    → written ≡ copy_within seen from (from + n) to → refill made first written ≡ with_copied first from to n
-copied first seen written made from to n count same long is =
-    let many : (from + n) - from ≡ n = omega arith in
-    all_new made first written (omega (arith, count, ap length same, long))
-    ∙ is ∙ ap (λ l. copy_within l from (from + n) to) same ∙ ap (λ (k : ℕ). take to first ++ take k (drop from first) ++ drop (to + k) first) many
+pub copied : (first seen written : List (List ℕ)) (made from to n : ℕ) → made ≡ length first → seen ≡ first → from + n ≤ length first → to + n ≤ length first
+    → written ≡ with_copied seen from to n → refill made first written ≡ with_copied first from to n
+copied first seen written made from to n count same source target is =
+    let now : written ≡ with_copied first from to n = is ∙ ap (λ l. with_copied l from to n) same in
+    all_new made first written (omega (arith, count, ap length now, length-paste first to (drop from first) n target (omega (arith, source, length-drop from first)))) ∙ now
 
 -- lines are put over those kept
 

@@ -152,6 +152,7 @@ impl<A: Allocator> Region<A> {
 
     /// Makes the `n` lines from `to` on the `n` lines from `from` on. Both have to be there, and may not
     /// overlap. No other line changes.
+    #[inline]
     pub fn copy_lines(&mut self, from: u32, to: u32, n: u32)
         requires source { from + n ≤ length self.old }
         requires target { to + n ≤ length self.old }
@@ -160,10 +161,26 @@ impl<A: Allocator> Region<A> {
         ensures count { length self.new ≡ length self.old }
     {
         reach(&mut self.lines, self.count, from.max(to) + n);
-        let (start, end) = (from as usize, from as usize + n as usize);
-        self.lines
-            .as_mut_slice()
-            .copy_within(start..end, to as usize);
+        copy_apart(
+            self.lines.as_mut_slice(),
+            from as usize,
+            to as usize,
+            n as usize,
+        );
+    }
+}
+
+// Makes the `n` lines from `to` on the `n` lines from `from` on, which they don't overlap. A loop, since it is taken in where
+// one line is copied.
+#[inline]
+fn copy_apart(lines: &mut [[u8; 64]], from: usize, to: usize, n: usize)
+    requires source { from + n ≤ length lines.old }
+    requires target { to + n ≤ length lines.old }
+    requires apart { (from + n ≤ to) ⊎ (to + n ≤ from) }
+    ensures { lines.new ≡ with_copied lines.old from to n }
+{
+    'copying: for i in 0..n {
+        lines[to + i] = lines[from + i];
     }
 }
 

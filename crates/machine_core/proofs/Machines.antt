@@ -20,7 +20,6 @@ use Rattle.machine_core.specs.Turns.{AreLikeGuests, Guest, guest_at, guest_of, w
 use Rattle.machine_core.specs.Laws.{after_both, leads, processes_at, runs_shown, whole_by}
 use Rattle.machine_core.specs.Kept.{IsBeside, IsChanged, IsRunningList, guest_in, machine_of}
 use Rattle.machine_core.specs.NumberLaws.{entries_rise, in_passing, numbers_are, numbers_rise, rises_passing}
-use Rattle.machine_core.specs.NumberLaws as numbers
 use Rattle.machine_core.proofs.Stepping.{of_running}
 use Rattle.machine_core.proofs.Listed.{runs_found}
 use Rattle.ascending_numbers.specs.Numbers.{Numbers, is_in}

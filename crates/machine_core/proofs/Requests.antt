@@ -1,4 +1,10 @@
-use Rattle.std.proofs.Common.{◌≡◌, ℕ, ◌-◌, ◌^◌, ◌==◌, ◌||◌, Bool, true, false, cond, List, [], ◌∷◌, Option, Some, None, sym, ap, ◌∙◌, refl, eqb-true}
+use Rattle.std.proofs.Common.{◌≡◌, ◌≤◌, ℕ, ◌-◌, ◌^◌, ◌==◌, ◌||◌, Bool, true, false, cond, List, [], ◌∷◌, Option, Some, None, sym, ap, subst, ◌∙◌, refl, arith, eqb-true}
+use Rattle.std.specs.Option.{option_map_or}
+use Rattle.std.specs.FinMap.{get}
+use Rattle.sizes.specs.declared.TheConstants.{MOST_WRITTEN}
+use Rattle.machine_core.specs.BareTurns.{bytes_asked}
+use Rattle.machine_core.specs.Kept.{KeptProcesses, room_at}
+use Rattle.machine_core.specs.declared.process.Process as declared
 use Rattle.ovl_io.specs.Memory.{Access, Memory, denied_at}
 use Rattle.rv_execute.specs.Registers.{Registers, register}
 use Rattle.rv_execute.specs.Calls.{load_at}
@@ -55,3 +61,19 @@ module _ (p : ℕ) (regs : Registers) (memory : Memory) (t : BareTranslations) w
       printed_accesses ((register regs 17 == 93) || (register regs 17 == 94)) _ _ [] refl (printed_accesses (register regs 17 == 172) _ _ [] refl refl) in
       sym (ap (λ b. counted p memory (cond b (write regs memory) rest).accesses t) (not_equal (register regs 17) 64 (λ h. other (is ∙ h)))
       ∙ ap (λ accesses. counted p memory accesses t) silent ∙ counted_none p memory t)
+
+-- How many bytes a request may write.
+
+bytes_few : (regs : Registers) → bytes_asked regs ≤ MOST_WRITTEN
+bytes_few regs = by_test (register regs 17 == 64)
+  where
+    by_test : (b : Bool) → cond b (write_count regs) 0 ≤ MOST_WRITTEN
+    by_test true = omega arith
+    by_test false = omega arith
+
+pub room_few : (processes : KeptProcesses) (p n : ℕ) → n ≡ room_at processes p → n ≤ MOST_WRITTEN
+room_few processes p n is = subst (λ k. k ≤ MOST_WRITTEN) (sym is) (by_process (get processes p))
+  where
+    by_process : (o : Option declared.Process) → option_map_or (λ (process : declared.Process). bytes_asked process.regs) o 0 ≤ MOST_WRITTEN
+    by_process None = omega arith
+    by_process (Some process) = bytes_few process.regs

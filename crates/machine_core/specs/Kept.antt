@@ -10,6 +10,7 @@ use Rattle.space_maps.specs.Spaces.{holds_space, space_in}
 use Rattle.machine_core.specs.Process.{runs}
 use Rattle.machine_core.specs.Machine.{KeepsPlaces, LeadsTo, Machine, StaysBut, Wholes, whole_in}
 use Rattle.machine_core.specs.Turns.{Guest}
+use Rattle.machine_core.specs.BareTurns.{bytes_asked}
 use Rattle.machine_core.specs.declared.view.View.{View}
 use Rattle.machine_core.specs.declared.process.Process as declared
 
@@ -26,6 +27,10 @@ machine_of extension memory processes = record { memory = memory; processes = pr
 -- whether there is a process of that number, and it runs
 abbrev pub runs_at : KeptProcesses → ℕ → Bool
 runs_at processes p = option_map_or (λ (process : declared.Process). runs process.state) (get processes p) false
+
+-- how many bytes what that process asks for may write
+abbrev pub room_at : KeptProcesses → ℕ → ℕ
+room_at processes p = option_map_or (λ (process : declared.Process). bytes_asked process.regs) (get processes p) 0
 
 -- a process that is kept, in its place
 abbrev pub guest_seen : Bool → ℕ → State → BareTranslations → declared.Process → Guest

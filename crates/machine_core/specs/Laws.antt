@@ -41,6 +41,7 @@ use Rattle.std.specs.FinSet.{contains}
 use Rattle.breakpoints.specs.Breakpoints.{Addresses}
 use Rattle.machine_core.specs.Executions.{AreLikeExecutions, Executions, after_executions, after_steps, all_executed, came_to_last, executions, first_execution, is_at_stop, more_executions, no_execution, resumed, steps_to, stopped_execution}
 use Rattle.machine_core.specs.Play.{after_number, run_over}
+use Rattle.machine_core.specs.BareTurns.{bytes_asked, room_asked}
 
 -- What the copying machine has of a machine, what states that differ in the numbers of origins alone have in common, and a turn by
 -- its two parts.
@@ -84,6 +85,16 @@ runs_shown machine q =
   where
     by_process : (o : Option declared.Process) → option_map_or (λ (process : Process). runs process.state) (option_map (whole_in (spaces_of machine) q) o) false
         ≡ option_map_or (λ (process : declared.Process). runs process.state) o false
+    by_process None = refl
+    by_process (Some process) = refl
+
+-- how many bytes what a process asks for may write, by what is kept of it
+pub room_shown : (machine : Machine) (q : ℕ) → room_asked (wholes machine) q ≡ option_map_or (λ (process : declared.Process). bytes_asked process.regs) (get machine.processes q) 0
+room_shown machine q =
+    ap (λ (o : Option Process). option_map_or (λ (process : Process). bytes_asked process.registers) o 0) (processes_at machine q) ∙ by_process (get machine.processes q)
+  where
+    by_process : (o : Option declared.Process) → option_map_or (λ (process : Process). bytes_asked process.registers) (option_map (whole_in (spaces_of machine) q) o) 0
+        ≡ option_map_or (λ (process : declared.Process). bytes_asked process.regs) o 0
     by_process None = refl
     by_process (Some process) = refl
 

@@ -1,6 +1,7 @@
 pub mod Process
 pub mod Machine
 pub mod Turns
+pub mod BareTurns
 pub mod Executions
 pub mod Play
 pub mod Codes

@@ -1,16 +1,18 @@
 //! Processes by number and the list of running numbers, kept together by turns and by edits.
 
-ghost use Rattle.std.specs.Prelude.{◌≡◌, Bool, true, OnOk, OnErr};
+ghost use Rattle.std.specs.Prelude.{◌≡◌, Bool, length, true, OnOk, OnErr};
 ghost use Rattle.std.specs.FinMap as map;
 ghost use Rattle.std.specs.Option.{is_some};
 ghost use Rattle.machine_core.specs.Machine.{AnswersAs, has_space, is_running, wholes};
 ghost use Rattle.machine_core.specs.Turns.{after_asked, turn_asked};
 ghost use Rattle.machine_core.specs.Executions.{after_executions, came_to_last, steps_to, stops_in};
-ghost use Rattle.machine_core.specs.Kept.{IsChanged, IsListBut, IsRunningList, machine_of, runs_at};
+ghost use Rattle.machine_core.specs.BareTurns.{turn_with};
+ghost use Rattle.machine_core.specs.Kept.{IsChanged, IsListBut, IsRunningList, machine_of, room_at, runs_at};
 ghost use Rattle.overlay_memory.specs.View.{NoneAwaits, state_of};
 ghost use Rattle.space_maps.specs.Spaces.{holds_space};
 
-use crate::guest::answer_request;
+use crate::bare_turn::BareTurn;
+use crate::guest::{answer_request, bytes_asked};
 use crate::process::{Process, is_running};
 use crate::stretches::execute_up_to;
 use ascending_numbers::AscendingNumbers;
@@ -18,7 +20,6 @@ use breakpoints::Addresses;
 use by_number::ByNumber;
 use decoded_lines::DecodedLines;
 use overlay_memory::OverlayMemory;
-use ovl_io::Turn;
 use rv_execute::Outcome;
 use rv_mul::Instructions;
 use std::alloc::AllocError;
@@ -31,6 +32,17 @@ pub(crate) fn runs_in(processes: &ByNumber<Process>, p: u16) -> bool
     match processes.get(p) {
         Some(process) => is_running(process),
         None => false,
+    }
+}
+
+/// How many bytes what a process asks for may write.
+#[inline]
+pub(crate) fn room_in(processes: &ByNumber<Process>, p: u16) -> usize
+    ensures { result ≡ room_at processes.now p }
+{
+    match processes.get(p) {
+        Some(process) => bytes_asked(&process.regs),
+        None => 0,
     }
 }
 
@@ -112,11 +124,18 @@ pub(crate) fn execute_turns<const EXTENSION: bool>(
 }
 
 /// Does what a running process, whose space is there, asked for, with extension M or without. Answers also whether it still runs.
-fn answer_in(processes: &mut ByNumber<Process>, memory: &mut OverlayMemory, p: u16) -> (Turn, bool)
+#[inline]
+fn answer_in(
+    processes: &mut ByNumber<Process>,
+    memory: &mut OverlayMemory,
+    p: u16,
+    bytes: &mut [u8],
+) -> (BareTurn, bool)
     requires runs { runs_at processes.old p ≡ true }
     requires there { holds_space (state_of memory.old) p ≡ true }
+    requires room { length bytes.old ≡ room_at processes.old p }
     ensures answers { (extension : Bool) → AnswersAs (λ state. turn_asked state p)
-        (machine_of extension memory.old processes.old) result.0 }
+        (machine_of extension memory.old processes.old) (turn_with result.0 bytes.new) }
     ensures changed { (extension : Bool) → IsChanged p (machine_of extension memory.old processes.old)
         (machine_of extension memory.new processes.new)
         (λ state. after_asked state p) }
@@ -124,7 +143,7 @@ fn answer_in(processes: &mut ByNumber<Process>, memory: &mut OverlayMemory, p: u
 {
     match processes.get_mut(p) {
         Some(process) => {
-            let turn = answer_request(process, memory, p);
+            let turn = answer_request(process, memory, p, bytes);
             (turn, is_running(process))
         }
         None => unreachable!(),
@@ -137,18 +156,20 @@ pub(crate) fn answer_turn(
     memory: &mut OverlayMemory,
     running: &mut AscendingNumbers,
     p: u16,
-) -> Turn
+    bytes: &mut [u8],
+) -> BareTurn
     requires kept { IsRunningList processes.old running.old }
     requires runs { runs_at processes.old p ≡ true }
     requires there { holds_space (state_of memory.old) p ≡ true }
+    requires room { length bytes.old ≡ room_at processes.old p }
     ensures answers { (extension : Bool) → AnswersAs (λ state. turn_asked state p)
-        (machine_of extension memory.old processes.old) result }
+        (machine_of extension memory.old processes.old) (turn_with result bytes.new) }
     ensures changed { (extension : Bool) → IsChanged p (machine_of extension memory.old processes.old)
         (machine_of extension memory.new processes.new)
         (λ state. after_asked state p) }
     ensures kept { IsRunningList processes.new running.new }
 {
-    let (turn, runs) = answer_in(processes, memory, p);
+    let (turn, runs) = answer_in(processes, memory, p, bytes);
     if runs {
         return turn;
     }

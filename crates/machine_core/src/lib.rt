@@ -5,6 +5,7 @@
 //! a whole memory, with the ledger of all pages after it, and `play` takes many.
 //!
 //! - `process`: what is shown of a process
+//! - `bare_turn`: what came of a turn, without the bytes that it wrote
 //! - `view`: the memory of one space, as an instruction sees it
 //! - `hand`: the line that instructions are taken from, decoded
 //! - `stretches`: instructions of one process, one after the other
@@ -14,6 +15,7 @@
 //! - `machine`: `Machine` with its calls
 #![tactic(auto)]
 
+mod bare_turn;
 mod guest;
 mod hand;
 mod keeping;
@@ -23,6 +25,7 @@ mod process;
 mod stretches;
 mod view;
 
+pub use bare_turn::BareTurn;
 pub use machine::Machine;
 pub use overlay_memory::SpaceError;
 pub use process::{Process, SavedRegs};

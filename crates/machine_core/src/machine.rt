@@ -1,18 +1,19 @@
 //! The machine: processes by number.
 
-ghost use Rattle.std.specs.Prelude.{◌≡◌, ◌<◌, ◌≤◌, [], true, false, slice_get, IfOk, None, Some, OnOk, OnErr};
+ghost use Rattle.std.specs.Prelude.{◌≡◌, ◌<◌, ◌≤◌, [], length, true, false, slice_get, IfOk, None, Some, OnOk, OnErr};
 ghost use Rattle.std.specs.Borrow.{Lends, sem};
 ghost use Rattle.std.specs.FinMap as map;
 ghost use Rattle.std.specs.List.{All};
 ghost use Rattle.std.specs.List.Sorted.{IsStrictlyIncreasing};
 ghost use Rattle.std.specs.Option.{MatchOption, is_some, option_copied};
-ghost use Rattle.sizes.specs.declared.TheConstants.{LAST_SPACE, MOST_FRAMES};
+ghost use Rattle.sizes.specs.declared.TheConstants.{LAST_SPACE, MOST_FRAMES, MOST_WRITTEN};
 ghost use Rattle.elf_loader.specs.Image.{IsImageOf};
 ghost use Rattle.overlay_pages.specs.Calls.{IsEmptyState};
 ghost use Rattle.translation_cache.specs.Translations.{no_translations};
 ghost use Rattle.machine_core.specs.Machine.{AnswersAs, AreLike, HaveSpaces, IsDropped, KeepsPlaces, LeadsTo, StaysBut, has_saved, has_space, is_marked, is_running, keys_from, lists_of, registers_at, registers_shown, running_numbers, shown_at, spaces_of, wholes, with_extension, with_extension_at, with_memory, with_process_at, without_memory, without_process, without_process_at};
 ghost use Rattle.machine_core.specs.Turns.{after_asked, after_execution, after_turn, came_to, turn_asked, turn_of};
 ghost use Rattle.machine_core.specs.Executions.{after_executions, came_to_last, steps_to, stops_in};
+ghost use Rattle.machine_core.specs.BareTurns.{room_asked, turn_with};
 ghost use Rattle.machine_core.specs.Ample.{IsAmplyTaken};
 ghost use Rattle.machine_core.specs.Play.{AreOwnTurns, after_number, run_over};
 ghost use Rattle.machine_core.specs.Load.{IsAsBefore, IsLoaded, Loads, LoadsAs, is_load_full, page_count, with_loaded};
@@ -20,7 +21,8 @@ ghost use Rattle.machine_core.specs.contracts.machine.Machine.{the_row};
 ghost use Rattle.overlay_memory.specs.View.{NoneAwaits};
 ghost use Rattle.overlay_memory.specs.contracts.memory.OverlayMemory as memory;
 
-use crate::keeping::{adopt, answer_turn, execute_turns, remove, runs_in, set};
+use crate::bare_turn::BareTurn;
+use crate::keeping::{adopt, answer_turn, execute_turns, remove, room_in, runs_in, set};
 use crate::load::{load_space, stored_in};
 use crate::process::Process;
 use ascending_numbers::AscendingNumbers;
@@ -32,7 +34,7 @@ use overlay_memory::{OverlayMemory, SpaceError};
 use ovl_io::{ProcessState, Turn};
 use rv_execute::{Outcome, Regs};
 use rv_mul::Instructions;
-use sizes::{FRAME_UNITS, STACK_PAGES, STACK_POINTER};
+use sizes::{FRAME_UNITS, MOST_WRITTEN, STACK_PAGES, STACK_POINTER};
 use std::alloc::{AllocError, Global};
 use std::marker::Model;
 
@@ -310,8 +312,40 @@ impl Machine {
         self.execute_up_to(p, 1, None).1
     }
 
-    /// Does what a running process, whose space is there, asked for by ECALL, and answers what came of it. Takes no memory.
-    pub fn answer(&mut self, p: u16) -> Turn
+    /// How many bytes what a process asks for by ECALL may write, at most `MOST_WRITTEN`: none where it isn't a write.
+    #[inline]
+    pub fn room_asked(&self, p: u16) -> usize
+        ensures room { result ≡ room_asked (wholes self.now) p }
+        ensures few { result ≤ MOST_WRITTEN }
+    {
+        room_in(&self.processes, p)
+    }
+
+    /// Does what a running process, whose space is there, asked for by ECALL, and answers what came of it. The bytes of a write come
+    /// into `bytes`, which has room for just as many as it may write. Takes no memory.
+    #[inline]
+    pub fn answer(&mut self, p: u16, bytes: &mut [u8]) -> BareTurn
+        requires runs { is_running (wholes self.old) p ≡ true }
+        requires there { has_space self.old p ≡ true }
+        requires none_awaits { NoneAwaits (spaces_of self.old) p }
+        requires room { length bytes.old ≡ room_asked (wholes self.old) p }
+        ensures answers { AnswersAs (λ state. turn_asked state p) self.old (turn_with result bytes.new) }
+        ensures stands { LeadsTo (λ state. after_asked state p) self.old self.new }
+        ensures others { StaysBut p self.old self.new }
+        ensures places { KeepsPlaces self.old self.new }
+    {
+        answer_turn(
+            &mut self.processes,
+            &mut self.memory,
+            &mut self.running,
+            p,
+            bytes,
+        )
+    }
+
+    /// As `answer`, with what it wrote. It stands apart, since a turn has room for all that a process may write.
+    #[inline(never)]
+    fn answer_whole(&mut self, p: u16) -> Turn
         requires runs { is_running (wholes self.old) p ≡ true }
         requires there { has_space self.old p ≡ true }
         requires none_awaits { NoneAwaits (spaces_of self.old) p }
@@ -320,7 +354,11 @@ impl Machine {
         ensures others { StaysBut p self.old self.new }
         ensures places { KeepsPlaces self.old self.new }
     {
-        answer_turn(&mut self.processes, &mut self.memory, &mut self.running, p)
+        let mut buffer = [0; MOST_WRITTEN];
+        let room = self.room_asked(p);
+        let bytes = &mut buffer[..room];
+        let came = self.answer(p, bytes);
+        came.turn(bytes)
     }
 
     /// One instruction of a running process, whose space is there, and what came of it: an execution, and then what it asked
@@ -338,7 +376,7 @@ impl Machine {
     {
         match self.execute(p) {
             Outcome::Stepped => Turn::Stepped,
-            Outcome::Asked => self.answer(p),
+            Outcome::Asked => self.answer_whole(p),
             Outcome::Fault(kind, address) => Turn::Faulted(kind, address),
             Outcome::Full(units, limit) => Turn::Full(units, limit),
         }

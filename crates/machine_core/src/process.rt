@@ -1,4 +1,4 @@
-ghost use Rattle.std.specs.Prelude.{◌≡◌};
+ghost use Rattle.std.specs.Prelude.{◌≡◌, None};
 ghost use Rattle.machine_core.specs.Process.{runs};
 
 use ovl_io::ProcessState;
@@ -9,6 +9,20 @@ use rv_execute::Regs;
 pub struct SavedRegs {
     pub regs: Regs,
     pub state: ProcessState,
+}
+
+impl SavedRegs {
+    /// The process that is there again after a discard: nothing is kept of it any more.
+    #[inline]
+    pub fn process(self) -> Process
+        ensures { result ≡ record { regs = self.regs; state = self.state; saved = None } }
+    {
+        Process {
+            regs: self.regs,
+            state: self.state,
+            saved: None,
+        }
+    }
 }
 
 /// A process without its memory: its registers, whether it runs, and what is kept while it is speculating.

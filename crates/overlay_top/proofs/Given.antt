@@ -1,7 +1,7 @@
 use Rattle.std.proofs.Common.{◌≡◌, Bool, ℕ, List, ◌++◌, ap, sym, subst, ◌∙◌, refl, Ok, Err}
 use Rattle.ovl_io.specs.declared.sink.Sink.{Ghosts as SinkOf}
 use Rattle.report_text.specs.declared.answer.Answer.{Answer}
-use Rattle.report_text.specs.declared.answer.Answer.TheVariants.{Done, Loaded, Forked, Saved, Shared, Refused, Full, Memory}
+use Rattle.report_text.specs.declared.answer.Answer.TheVariants.{Done, Loaded, Forked, Saved, Imported, Shared, Refused, Full, Memory}
 use Rattle.report_text.specs.Answers.{answer_text}
 use Rattle.command_core.specs.State.{AreLikeStates, State, registry_of}
 use Rattle.command_core.specs.Sessions.{InSession}
@@ -21,6 +21,7 @@ given_is row old Done new gives other = gives
 given_is row old (Loaded p pages entry) new gives other = gives
 given_is row old (Forked p q) new gives other = gives
 given_is row old (Saved p name space) new gives other = gives
+given_is row old (Imported name space pages) new gives other = gives
 given_is row old (Shared pages) new gives other = gives
 given_is row old (Refused code) new gives other = gives
 given_is row old (Full units limit) new gives other = gives

@@ -10,6 +10,8 @@ pub mod Chosen
 pub mod Codes
 pub mod Listing
 pub mod MemoryRows
+pub mod Blocks
+pub mod Exports
 pub mod Registers
 pub mod Given
 pub mod Beginnings

@@ -4,7 +4,11 @@ use Rattle.sizes.specs.declared.TheConstants.{ADDRESS_END}
 use Rattle.ovl_io.specs.Memory.{Memory}
 use Rattle.machine_core.specs.Process.{Process}
 use Rattle.report_text.specs.Lines.{regs_line}
+use Rattle.report_text.specs.declared.answer.Answer.{Answer}
+use Rattle.report_text.specs.declared.answer.Answer.TheVariants.{Refused, Memory as NoMemory}
 use Rattle.command_core.specs.declared.session.ProcessView.{ProcessView}
+use Rattle.command_core.specs.declared.imaging.ExportError.{ExportError}
+use Rattle.command_core.specs.declared.imaging.ExportError.TheVariants as unmade
 use Rattle.command_core.specs.declared.TheConstants.{WORD_BYTES}
 use Rattle.command_core.specs.Commands.{disasm_text, dump_text, registers_text}
 use Rattle.command_core.specs.Looks.{look_of}
@@ -41,3 +45,8 @@ bytes_dumped p address count state = dump_text (memory_in p state) address count
 
 abbrev pub words_text : Bool → ℕ → ℕ → ℕ → State → List ℕ
 words_text extension p address words state = disasm_text extension (memory_in p state) address words
+
+-- what is told where a checkpoint isn't exported
+abbrev pub answer_unexported : ExportError → Answer
+answer_unexported (unmade.Refused code) = Refused code
+answer_unexported unmade.Memory = NoMemory

@@ -3,19 +3,19 @@ ghost use Rattle.std.specs.FinMap.{entries};
 ghost use Rattle.script_text.specs.Given.{IsGiven, asks};
 ghost use Rattle.script_text.specs.declared.TheConstants.{MOST_WORDS};
 ghost use Rattle.sizes.specs.declared.TheConstants.{MOST_FILE_BYTES};
-ghost use Rattle.report_text.specs.Answers.{HasAnswerLine, answer_text};
+ghost use Rattle.report_text.specs.Answers.{HasAnswerLine, IsCheckpointName, answer_text};
 ghost use Rattle.command_core.specs.Changes.{CanBeTold, row_in};
 ghost use Rattle.command_core.specs.State.{registry_of};
-ghost use Rattle.command_core.specs.Commands.{RunsLoaded, asm_told, checkpoints_text, disasm_done, dump_done, exec_done, exec_turns, list_text, load_told, performed_in, processes_text, registers_text, regs_done, row_told, rules, run_done, stats_text, step_done, takes_left, tells_exec, register_value};
+ghost use Rattle.command_core.specs.Commands.{RunsLoaded, asm_told, checkpoints_text, disasm_done, dump_done, exec_done, exec_turns, export_done, import_told, list_text, load_told, performed_in, processes_text, registers_text, regs_done, row_told, rules, run_done, stats_text, step_done, takes_left, tells_exec, register_value};
 ghost use Rattle.overlay_top.specs.Sending.{SendsText};
-ghost use Rattle.overlay_top.specs.Printing.{view_text};
+ghost use Rattle.overlay_top.specs.Printing.{answer_unexported, view_text};
 ghost use Rattle.overlay_top.specs.Running.{DoesCommand, TakesOn, TellsAnswer};
 
-use crate::printing::{send_bytes, send_words};
+use crate::printing::{send_bytes, send_image, send_words};
 use crate::running::Halt;
 use crate::sending::Report;
-use command_core::{ProcessView, Running, Session, WORD_BYTES};
-use ovl_io::{Failed, Sink};
+use command_core::{ExportError, ProcessView, Running, Session, WORD_BYTES};
+use ovl_io::{Bytes, Failed, Sink};
 use report_text::{
     Answer, answer_line, checkpoint_line, list_line, process_line, register_line, regs_line,
     stats_line, stop_line,
@@ -89,6 +89,57 @@ fn asm<K: Sink>(session: &mut Session, text: &[u8], report: &mut Report<K>) -> R
     tell(&answer, report)
 }
 
+/// Makes a checkpoint of a file that says an image over another one.
+fn import<K: Sink>(
+    session: &mut Session,
+    name: &Bytes,
+    base: &Bytes,
+    file: &[u8],
+    report: &mut Report<K>,
+) -> Result<(), Halt>
+    requires named { IsCheckpointName name.now }
+    requires based { IsCheckpointName base.now }
+    requires small { length file.now ≤ MOST_FILE_BYTES }
+    ensures does { DoesCommand K.Sink report.old.sink.now report.new.sink.now
+        (import_told rules name.now base.now file.now session.old.state) session.old session.new result }
+    ensures same { report.new.sink.ghost_name ≡ report.old.sink.ghost_name }
+{
+    let answer = session.import(name, base, file);
+    tell(&answer, report)
+}
+
+/// What is told where a checkpoint isn't exported.
+fn not_exported(error: ExportError) -> Answer
+    ensures { result ≡ answer_unexported error }
+{
+    match error {
+        ExportError::Refused(code) => Answer::Refused(code),
+        ExportError::Memory => Answer::Memory,
+    }
+}
+
+/// Prints the image of a checkpoint over another one.
+fn export<K: Sink>(
+    session: &Session,
+    name: &Bytes,
+    base: &Bytes,
+    report: &mut Report<K>,
+) -> Result<(), Halt>
+    requires named { IsCheckpointName name.now }
+    requires based { IsCheckpointName base.now }
+    ensures does { DoesCommand K.Sink report.old.sink.now report.new.sink.now
+        (export_done rules name.now base.now session.now.state) session.now session.now result }
+    ensures same { report.new.sink.ghost_name ≡ report.old.sink.ghost_name }
+{
+    match session.export(name, base) {
+        Ok(image) => match send_image(name, base, image.as_slice(), report) {
+            Ok(()) => Ok(()),
+            Err(_) => Err(Halt::SendFailed),
+        },
+        Err(error) => tell(&not_exported(error), report),
+    }
+}
+
 /// Gives a process that was just made so many turns; nothing follows a load that made none.
 fn turns_of_loaded<K: Sink>(
     session: &mut Session,
@@ -112,6 +163,7 @@ fn turns_of_loaded<K: Sink>(
         Answer::Done => Ok(()),
         Answer::Forked(_, _) => Ok(()),
         Answer::Saved(_, _, _) => Ok(()),
+        Answer::Imported(_, _, _) => Ok(()),
         Answer::Shared(_) => Ok(()),
         Answer::Refused(_) => Ok(()),
         Answer::Full(_, _) => Ok(()),
@@ -403,6 +455,8 @@ pub(crate) fn do_command<K: Sink>(
         Command::Exec(_, turns) => return exec(session, file, *turns, report),
         Command::Load(_) => return load(session, file, report),
         Command::Asm(_) => return asm(session, file, report),
+        Command::Import(name, base, _) => return import(session, name, base, file, report),
+        Command::Export(name, base) => return export(session, name, base, report),
         Command::Run(turns) => run_all(session, *turns, report),
         Command::Step(p, turns) => step(session, *p, *turns, report),
         Command::List => list(session, report),

@@ -1,9 +1,11 @@
-//! Bytes of a process's memory, as lines.
+//! Bytes as lines: of a process's memory, and of an image.
 
-ghost use Rattle.std.specs.Prelude.{◌≡◌, ◌≤◌};
+ghost use Rattle.std.specs.Prelude.{◌≡◌, ◌<◌, ◌≤◌, ◌^◌, length};
+ghost use Rattle.image_lines.specs.Lines.{printed};
 ghost use Rattle.ovl_io.specs.Memory.{bytes_at};
 ghost use Rattle.report_text.specs.declared.TheConstants.{ROW_BYTES};
-ghost use Rattle.report_text.specs.Lines.{disasm_line_by, dump_line};
+ghost use Rattle.report_text.specs.Answers.{IsCheckpointName};
+ghost use Rattle.report_text.specs.Lines.{disasm_line_by, dump_line, exported_text};
 ghost use Rattle.rv_mul.specs.Tables.{table_of};
 ghost use Rattle.command_core.specs.declared.TheConstants.{WORD_BYTES};
 ghost use Rattle.command_core.specs.Commands.{disasm_row};
@@ -13,8 +15,10 @@ ghost use Rattle.overlay_top.specs.Printing.{SeesBytes, SeesWords, bytes_dumped,
 use crate::sending::Report;
 use byteorder::{ByteOrder, LittleEndian};
 use command_core::{Session, WORD_BYTES};
-use ovl_io::{Failed, Sink};
-use report_text::{Line, ROW_BYTES, disasm_line, disasm_m_line, dump_line};
+use ovl_io::{Bytes, Failed, Sink};
+use report_text::{
+    BLOCK_BYTES, Line, ROW_BYTES, disasm_line, disasm_m_line, dump_line, exported_line, image_lines,
+};
 
 /// Makes the line of `n` bytes of a process from an address on; they were looked at.
 fn bytes_line(session: &Session, p: u16, address: u64, n: u32, line: &mut Line)
@@ -100,4 +104,39 @@ pub(crate) fn send_words<K: Sink>(
         left -= 1;
     }
     Ok(())
+}
+
+/// Sends the lines of an image's bytes, as many at once as a line of the report has room for.
+fn send_image_lines<K: Sink>(image: &[u8], report: &mut Report<K>) -> Result<(), Failed>
+    ensures sends { SendsText K.Sink report.old.sink.now (printed image.now) report.new.sink.now result }
+    ensures same { report.new.sink.ghost_name ≡ report.old.sink.ghost_name }
+{
+    let mut rest = image;
+    'sending: while BLOCK_BYTES < rest.len() {
+        let (front, behind) = rest.split_at(BLOCK_BYTES);
+        image_lines(front, &mut report.line);
+        report.send()?;
+        rest = behind;
+    }
+    image_lines(rest, &mut report.line);
+    report.send()
+}
+
+/// Sends the line of how long an image is, and those of its bytes. Names have 1 to 32 bytes.
+pub(crate) fn send_image<K: Sink>(
+    name: &Bytes,
+    base: &Bytes,
+    image: &[u8],
+    report: &mut Report<K>,
+) -> Result<(), Failed>
+    requires named { IsCheckpointName name.now }
+    requires based { IsCheckpointName base.now }
+    requires few { length image.now < 2 ^ 32 }
+    ensures sends { SendsText K.Sink report.old.sink.now (exported_text name.now base.now image.now)
+        report.new.sink.now result }
+    ensures same { report.new.sink.ghost_name ≡ report.old.sink.ghost_name }
+{
+    exported_line(name, base, image.len() as u32, &mut report.line);
+    report.send()?;
+    send_image_lines(image, report)
 }

@@ -1,10 +1,13 @@
 //! Turns of a machine: one at a time, and up to the next that has a line.
 
-ghost use Rattle.std.specs.Prelude.{◌≡◌, ◌+◌, ◌≤◌, ◌<◌, [], Some, None, true, false, IfSome};
+ghost use Rattle.std.specs.Prelude.{◌≡◌, ◌+◌, ◌≤◌, ◌<◌, [], Some, None, true, false, length, IfSome};
 ghost use Rattle.std.specs.FinMap.{empty};
 ghost use Rattle.space_maps.specs.Spaces.{space_in};
-ghost use Rattle.report_text.specs.Answers.{HasPort};
+ghost use Rattle.sizes.specs.declared.TheConstants.{MOST_WRITTEN};
+ghost use Rattle.report_text.specs.Answers.{HasPort, has_turn_line, turn_text};
 ghost use Rattle.machine_core.specs.Machine.{AreLike, KeepsPlaces, StaysBut, has_saved, has_space, is_marked, is_running, spaces_of, wholes};
+ghost use Rattle.machine_core.specs.Ample.{is_full_turn};
+ghost use Rattle.machine_core.specs.BareTurns.{room_asked, turn_with};
 ghost use Rattle.machine_core.specs.Executions.{after_executions, came_to_last, steps_to};
 ghost use Rattle.self_speculation.specs.Requests.{KeepsPairs};
 ghost use Rattle.self_speculation.specs.Taken.{AnswersRequest, after_taken, taken_turn};
@@ -14,11 +17,17 @@ ghost use Rattle.process_runs.specs.Turns.{EndsRun, EndsStretch, FinishesTurn, I
 
 use crate::turns::{Order, Running};
 use breakpoints::{Addresses, Breakpoints};
-use machine_core::{Machine, Process};
+use machine_core::{BareTurn, Machine, Process};
 use ovl_io::{ProcessState, Turn};
 use report_text::{Line, Stop, turn_line};
 use rv_execute::Outcome;
 use self_speculation::{answer, event};
+use sizes::MOST_WRITTEN;
+
+/// Sizes of the room for a write: it is cleared, so a short write has little.
+const SMALL_WRITE: usize = 64;
+
+const MIDDLE_WRITE: usize = 512;
 
 /// Executes up to so many instructions of a running process, whose space is there, as long as each is a step and leads to none
 /// of its breakpoints. Answers how many were steps, and what came of the last one.
@@ -46,43 +55,153 @@ fn execute_up_to(
 
 /// Does what a process asked for, and answers what came of it.
 #[inline]
-fn answer_request(machine: &mut Machine, p: u16, calls: bool) -> Turn
+fn answer_request(machine: &mut Machine, p: u16, calls: bool, bytes: &mut [u8]) -> BareTurn
     requires runs { is_running (wholes machine.old) p ≡ true }
     requires there { has_space machine.old p ≡ true }
     requires none_awaits { (space_in (spaces_of machine.old) p).awaiting ≡ empty }
     requires pairs { is_marked machine.old p ≡ has_saved machine.old p }
-    ensures answers { AnswersRequest calls p (wholes machine.old) result (wholes machine.new) }
-    ensures port { HasPort result }
+    requires room { length bytes.old ≡ room_asked (wholes machine.old) p }
+    ensures answers { AnswersRequest calls p (wholes machine.old) (turn_with result bytes.new)
+        (wholes machine.new) }
+    ensures port { HasPort (turn_with result bytes.new) }
     ensures kept { KeepsPairs machine.old machine.new }
     ensures free { KeepsFree machine.old machine.new }
     ensures perms { KeepsAllPerms machine.old machine.new }
 {
-    answer(machine, p, calls)
+    answer(machine, p, calls, bytes)
 }
 
-/// The rest of a turn of a process whose execution came to this: what it asked for, where it did. Answers what came of the turn.
+/// The rest of a turn of a process whose execution came to this: what it asked for, where it did. Answers what came of the turn. The bytes of
+/// a write come into `bytes`, which has room for just as many as it may write.
 #[inline]
-fn finish_turn(machine: &mut Machine, p: u16, outcome: Outcome, calls: bool) -> Turn
+fn finish_turn(
+    machine: &mut Machine,
+    p: u16,
+    outcome: Outcome,
+    calls: bool,
+    bytes: &mut [u8],
+) -> BareTurn
     requires runs { outcome ≡ Outcome.Asked → is_running (wholes machine.old) p ≡ true }
     requires there { has_space machine.old p ≡ true }
     requires none_awaits { (space_in (spaces_of machine.old) p).awaiting ≡ empty }
     requires pairs { is_marked machine.old p ≡ has_saved machine.old p }
-    ensures turn { FinishesTurn calls p outcome (wholes machine.old) result (wholes machine.new) }
-    ensures port { HasPort result }
+    requires room { outcome ≡ Outcome.Asked → length bytes.old ≡ room_asked (wholes machine.old) p }
+    ensures turn { FinishesTurn calls p outcome (wholes machine.old) (turn_with result bytes.new)
+        (wholes machine.new) }
+    ensures port { HasPort (turn_with result bytes.new) }
     ensures kept { KeepsPairs machine.old machine.new }
     ensures free { KeepsFree machine.old machine.new }
     ensures perms { KeepsAllPerms machine.old machine.new }
 {
     match outcome {
-        Outcome::Stepped => Turn::Stepped,
-        Outcome::Asked => answer_request(machine, p, calls),
-        Outcome::Fault(kind, address) => Turn::Faulted(kind, address),
-        Outcome::Full(units, limit) => Turn::Full(units, limit),
+        Outcome::Stepped => BareTurn::Stepped,
+        Outcome::Asked => answer_request(machine, p, calls, bytes),
+        Outcome::Fault(kind, address) => BareTurn::Faulted(kind, address),
+        Outcome::Full(units, limit) => BareTurn::Full(units, limit),
+    }
+}
+
+/// The line of a turn, which it sets, and whether it has one.
+#[inline]
+fn line_of(p: u16, came: BareTurn, bytes: &[u8], line: &mut Line) -> bool
+    requires few { length bytes.now ≤ MOST_WRITTEN }
+    requires port { HasPort (turn_with came bytes.now) }
+    ensures text { line.new.items ≡ turn_text p (turn_with came bytes.now) }
+    ensures has { result ≡ has_turn_line (turn_with came bytes.now) }
+{
+    if let BareTurn::Stepped = came {
+        line.clear();
+        return false;
+    }
+    spoken(p, came, bytes, line)
+}
+
+/// The line of a turn, by the turn. It stands apart, since a turn has room for all that a process may write.
+#[inline(never)]
+fn spoken(p: u16, came: BareTurn, bytes: &[u8], line: &mut Line) -> bool
+    requires few { length bytes.now ≤ MOST_WRITTEN }
+    requires port { HasPort (turn_with came bytes.now) }
+    ensures text { line.new.items ≡ turn_text p (turn_with came bytes.now) }
+    ensures has { result ≡ has_turn_line (turn_with came bytes.now) }
+{
+    turn_line(p, &came.turn(bytes), line)
+}
+
+/// What follows the last execution of a stretch, which was no step, with room for the bytes of a write: what the process asked for is
+/// done, the turn is counted, and its line is set, where it has one.
+#[inline]
+fn end_with(
+    machine: &mut Machine,
+    running: &mut Running,
+    p: u16,
+    outcome: Outcome,
+    bytes: &mut [u8],
+    line: &mut Line,
+) -> bool
+    requires runs { outcome ≡ Outcome.Asked → is_running (wholes machine.old) p ≡ true }
+    requires there { has_space machine.old p ≡ true }
+    requires none_awaits { (space_in (spaces_of machine.old) p).awaiting ≡ empty }
+    requires pairs { is_marked machine.old p ≡ has_saved machine.old p }
+    requires room { outcome ≡ Outcome.Asked → length bytes.old ≡ room_asked (wholes machine.old) p }
+    requires few { length bytes.old ≤ MOST_WRITTEN }
+    requires left { running.old.run.taken < running.old.run.turns }
+    requires goes { running.old.stop ≡ None }
+    ensures ends { EndsStretch p outcome
+        (wholes machine.old) running.old (wholes machine.new) running.new result line.new.items }
+    ensures within { running.new.run.taken ≤ running.new.run.turns }
+    ensures kept { KeepsPairs machine.old machine.new }
+    ensures free { KeepsFree machine.old machine.new }
+    ensures perms { KeepsAllPerms machine.old machine.new }
+{
+    let came = finish_turn(machine, p, outcome, running.calls(), bytes);
+    running.count(p, came.is_full());
+    line_of(p, came, bytes, line)
+}
+
+/// The same with room of a size of its own, so that only as much is cleared as the write is of.
+#[inline(never)]
+fn end_writing<const ROOM: usize>(
+    machine: &mut Machine,
+    running: &mut Running,
+    p: u16,
+    outcome: Outcome,
+    room: usize,
+    line: &mut Line,
+) -> bool
+    requires size { ROOM ≤ MOST_WRITTEN }
+    requires fits { room ≤ ROOM }
+    requires runs { outcome ≡ Outcome.Asked → is_running (wholes machine.old) p ≡ true }
+    requires there { has_space machine.old p ≡ true }
+    requires none_awaits { (space_in (spaces_of machine.old) p).awaiting ≡ empty }
+    requires pairs { is_marked machine.old p ≡ has_saved machine.old p }
+    requires room { outcome ≡ Outcome.Asked → room ≡ room_asked (wholes machine.old) p }
+    requires left { running.old.run.taken < running.old.run.turns }
+    requires goes { running.old.stop ≡ None }
+    ensures ends { EndsStretch p outcome
+        (wholes machine.old) running.old (wholes machine.new) running.new result line.new.items }
+    ensures within { running.new.run.taken ≤ running.new.run.turns }
+    ensures kept { KeepsPairs machine.old machine.new }
+    ensures free { KeepsFree machine.old machine.new }
+    ensures perms { KeepsAllPerms machine.old machine.new }
+{
+    let mut buffer = [0; ROOM];
+    end_with(machine, running, p, outcome, &mut buffer[..room], line)
+}
+
+/// How many bytes the rest of a turn may write whose execution came to this.
+#[inline]
+fn room_of(machine: &Machine, p: u16, outcome: &Outcome) -> usize
+    ensures room { outcome.now ≡ Outcome.Asked → result ≡ room_asked (wholes machine.now) p }
+    ensures few { result ≤ MOST_WRITTEN }
+{
+    match outcome {
+        Outcome::Asked => machine.room_asked(p),
+        Outcome::Stepped | Outcome::Fault(_, _) | Outcome::Full(_, _) => 0,
     }
 }
 
 /// What follows the last execution of a stretch, which was no step: what the process asked for is done, the turn is counted, and its
-/// line is set, where it has one. It stands apart, since a turn has room for all that a process may write.
+/// line is set, where it has one.
 #[inline(never)]
 fn end_stretch(
     machine: &mut Machine,
@@ -104,9 +223,17 @@ fn end_stretch(
     ensures free { KeepsFree machine.old machine.new }
     ensures perms { KeepsAllPerms machine.old machine.new }
 {
-    let turn = finish_turn(machine, p, outcome, running.calls());
-    running.count(p, &turn);
-    turn_line(p, &turn, line)
+    let room = room_of(machine, p, &outcome);
+    if room == 0 {
+        return end_with(machine, running, p, outcome, &mut [], line);
+    }
+    if room <= SMALL_WRITE {
+        return end_writing::<SMALL_WRITE>(machine, running, p, outcome, room, line);
+    }
+    if room <= MIDDLE_WRITE {
+        return end_writing::<MIDDLE_WRITE>(machine, running, p, outcome, room, line);
+    }
+    end_writing::<MOST_WRITTEN>(machine, running, p, outcome, room, line)
 }
 
 /// Takes turns of a running process, whose turn is next: until one has a line, which it sets, and answers true; or until one
@@ -291,6 +418,16 @@ fn find_ending(machine: &Machine, breakpoints: &Breakpoints, running: &mut Runni
     }
 }
 
+/// Whether there weren't units enough for a turn.
+fn is_full(turn: &Turn) -> bool
+    ensures { result ≡ is_full_turn turn.now }
+{
+    match turn {
+        Turn::Full(_, _) => true,
+        Turn::Stepped | Turn::Wrote(_) | Turn::Exited(_) | Turn::Faulted(_, _) => false,
+    }
+}
+
 /// Takes the next turn. None exactly where an ending was found before, or one holds; then no turn is taken.
 pub fn next_turn(
     machine: &mut Machine,
@@ -322,7 +459,7 @@ pub fn next_turn(
         None => None,
         Some(p) => {
             let turn = take_event(machine, p, running.calls());
-            running.count(p, &turn);
+            running.count(p, is_full(&turn));
             find_ending(machine, breakpoints, running);
             Some((p, turn))
         }

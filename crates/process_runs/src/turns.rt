@@ -1,8 +1,9 @@
 ghost use Rattle.std.specs.Prelude.{◌≡◌, ◌<◌, ◌≤◌, None, nat_lt};
 ghost use Rattle.std.specs.Option.{is_some};
+ghost use Rattle.ovl_io.specs.declared.turn.Turn.{Turn};
+ghost use Rattle.machine_core.specs.Ample.{is_full_turn};
 ghost use Rattle.process_runs.specs.Turns.{begun_by, run_after, run_counted, run_took, stretch};
 
-use ovl_io::Turn;
 use report_text::Stop;
 use round_robin::RoundRobin;
 use std::marker::Model;
@@ -137,16 +138,18 @@ impl Running {
         self.taken += n;
     }
 
-    /// Counts a turn of `p`. One for which there weren't units enough isn't counted, and ends the run.
-    pub(crate) fn count(&mut self, p: u16, turn: &Turn)
+    /// Counts a turn of `p`. One for which there weren't units enough (`full`) isn't counted, and ends the run.
+    #[inline]
+    pub(crate) fn count(&mut self, p: u16, full: bool)
         requires left { self.old.run.taken < self.old.run.turns }
         requires goes { self.old.stop ≡ None }
-        ensures counted { self.new ≡ run_counted turn.now p self.old.run }
+        ensures counted { (turn : Turn) → is_full_turn turn ≡ full → self.new ≡ run_counted turn p self.old.run }
         ensures within { self.new.run.taken ≤ self.new.run.turns }
     {
-        match turn {
-            Turn::Full(_, _) => self.stop = Some(Stop::Full),
-            Turn::Stepped | Turn::Wrote(_) | Turn::Exited(_) | Turn::Faulted(_, _) => self.took(p),
+        if full {
+            self.stop = Some(Stop::Full);
+        } else {
+            self.took(p);
         }
     }
 

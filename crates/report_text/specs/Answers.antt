@@ -29,6 +29,7 @@ answer_text (answer.Loaded p pages entry) =
 answer_text (answer.Forked p new) = codes "forked " ++ in_decimal p ++ codes " " ++ in_decimal new ++ codes "\n"
 answer_text (answer.Saved p name space) =
     codes "saved " ++ in_decimal p ++ codes " " ++ name ++ codes " " ++ in_decimal space ++ codes "\n"
+answer_text (answer.Imported name space pages) = codes "imported " ++ name ++ codes " " ++ in_decimal space ++ pages_text pages ++ codes "\n"
 answer_text (answer.Shared pages) = codes "shared " ++ in_decimal pages ++ codes "\n"
 answer_text (answer.Refused code) = codes "refused " ++ code_text code ++ codes "\n"
 answer_text (answer.Full units limit) = codes "full " ++ in_decimal units ++ codes " " ++ in_decimal limit ++ codes "\n"
@@ -62,6 +63,7 @@ HasAnswerLine answer.Done = Unit {0}
 HasAnswerLine (answer.Loaded p pages entry) = Unit {0}
 HasAnswerLine (answer.Forked p new) = Unit {0}
 HasAnswerLine (answer.Saved p name space) = IsCheckpointName name
+HasAnswerLine (answer.Imported name space pages) = IsCheckpointName name
 HasAnswerLine (answer.Shared pages) = Unit {0}
 HasAnswerLine (answer.Refused code) = HasCodeLine code
 HasAnswerLine (answer.Full units limit) = Unit {0}

@@ -143,6 +143,7 @@ answer_lines answer.Done = line (codes "ok") true
 answer_lines (answer.Loaded p pages entry) = line (codes "loaded " ++ in_decimal p ++ pages_text pages ++ codes " entry " ++ address_text entry) true
 answer_lines (answer.Forked p new) = line (codes "forked " ++ in_decimal p ++ codes " " ++ in_decimal new) true
 answer_lines (answer.Saved p name space) = line (codes "saved " ++ in_decimal p ++ codes " " ++ name ++ codes " " ++ in_decimal space) true
+answer_lines (answer.Imported name space pages) = line (codes "imported " ++ name ++ codes " " ++ in_decimal space ++ pages_text pages) true
 answer_lines (answer.Shared pages) = line (codes "shared " ++ in_decimal pages) true
 answer_lines (answer.Refused code) = line (codes "refused " ++ code_text code) true
 answer_lines (answer.Full units limit) = line (codes "full " ++ in_decimal units ++ codes " " ++ in_decimal limit) true

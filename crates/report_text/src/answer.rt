@@ -32,8 +32,14 @@ pub enum Code {
     FrameHere,
     /// The pages differ in too many lines; how many would lie in the overlay.
     NotAlike(u32),
+    /// The image would be too large; how many bytes it would have.
+    TooLarge(u32),
     /// The file isn't taken. Want of memory is no refusal, and has no line.
     Elf(ElfError),
+    /// A line of an image's file isn't as one is printed; the first such line, from 1.
+    ImageLine(u32),
+    /// The bytes of those lines aren't an image.
+    BadImage,
     /// A line of an assembler's text is outside the grammar. Here and below: the first such line, from 1.
     AsmLine(u32),
     /// The label of a line stands before it.
@@ -59,6 +65,8 @@ pub enum Answer {
     Forked(u16, u16),
     /// A checkpoint was made: of which process, under which name, and its space.
     Saved(u16, Bytes, u16),
+    /// A checkpoint was made of an image: under which name, its space, and how many pages it has.
+    Imported(Bytes, u16, u32),
     /// Pages were put on the frames of others: how many.
     Shared(u32),
     /// It was refused.

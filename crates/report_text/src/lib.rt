@@ -23,14 +23,17 @@ pub use answer::{Answer, Code, Stop};
 pub use push::Line;
 pub use report::{
     answer_line, bad_line, checkpoint_line, disasm_line, disasm_m_line, dump_line, exported_line,
-    image_line, list_line, process_line, register_line, regs_line, stats_line, stop_line,
+    image_line, image_lines, list_line, process_line, register_line, regs_line, stats_line, stop_line,
     turn_line,
 };
-use sizes::MOST_WRITTEN;
+use sizes::{LINE_BYTES, MOST_WRITTEN};
 
 /// Bytes that a line has room for: three for each byte that a process writes in one turn, and as many again
 /// as those bytes for all else.
 pub const LINE_ROOM: usize = 4 * MOST_WRITTEN;
+
+/// Bytes of an image whose lines stand in one `Line`, at most: those of 32 lines.
+pub const BLOCK_BYTES: usize = 32 * LINE_BYTES;
 
 /// The most bytes of memory on a line.
 pub const ROW_BYTES: usize = 16;

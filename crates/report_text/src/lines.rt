@@ -3,7 +3,7 @@ ghost use Rattle.arrayvec.specs.ArrayVec.{array_vec_len};
 ghost use Rattle.report_text.specs.Digits.{address_text, in_decimal};
 ghost use Rattle.report_text.specs.Lines.{bad_line, ran_line, list_line, process_line, checkpoint_line, stats_line, exported_line, regs_line, register_line, dump_line, disasm_line_by};
 ghost use Rattle.sizes.specs.declared.TheConstants.{LINE_BYTES};
-ghost use Rattle.image_lines.specs.Lines.{image_line};
+ghost use Rattle.image_lines.specs.Lines.{image_line, printed};
 ghost use Rattle.report_text.specs.declared.answer.Answer.TheVariants as answer;
 ghost use Rattle.ovl_io.specs.declared.turn.Turn.TheVariants as turn;
 ghost use Rattle.report_text.specs.Answers.{IsCheckpointName, HasCodeLine, answer_text, turn_text};
@@ -17,6 +17,7 @@ use crate::push::{
 use crate::{Code, LINE_ROOM, Line, ROW_BYTES, Stop};
 use ovl_io::{FaultKind, ProcessState};
 use rv_decode::Decoder;
+use sizes::LINE_BYTES;
 
 // One function a line, in the order of their definitions. Each puts its line at the end of `line`.
 
@@ -60,6 +61,22 @@ pub(crate) fn put_saved(line: &mut Line, p: u16, name: &[u8], space: u16)
     push_text(line, name);
     push_text(line, b" ");
     push_decimal(line, u64::from(space));
+    push_text(line, b"\n");
+}
+
+/// A checkpoint that was made of an image.
+pub(crate) fn put_imported(line: &mut Line, name: &[u8], space: u16, pages: u32)
+    requires room { array_vec_len line.old + 256 ≤ LINE_ROOM }
+    requires named { IsCheckpointName name.now }
+    ensures text { line.new.items ≡ line.old.items
+        ++ answer_text (answer.Imported name.now space pages) }
+    ensures len { array_vec_len line.new ≤ array_vec_len line.old + 256 }
+{
+    push_text(line, b"imported ");
+    push_text(line, name);
+    push_text(line, b" ");
+    push_decimal(line, u64::from(space));
+    push_pages(line, pages);
     push_text(line, b"\n");
 }
 
@@ -288,6 +305,20 @@ pub(crate) fn put_image(line: &mut Line, bytes: &[u8])
     push_text(line, b"image ");
     push_hex(line, bytes);
     push_text(line, b"\n");
+}
+
+/// Bytes of an image, line by line.
+pub(crate) fn put_image_lines(line: &mut Line, bytes: &[u8])
+    requires { array_vec_len line.old + 4 * length bytes.now + 256 ≤ LINE_ROOM }
+    ensures { line.new.items ≡ line.old.items ++ printed bytes.now }
+{
+    let mut rest = bytes;
+    'putting: while LINE_BYTES < rest.len() {
+        let (front, behind) = rest.split_at(LINE_BYTES);
+        put_image(line, front);
+        rest = behind;
+    }
+    put_image(line, rest);
 }
 
 /// The first line of a process's registers.

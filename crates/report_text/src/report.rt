@@ -1,14 +1,16 @@
 ghost use Rattle.std.specs.Prelude.{◌≡◌, ◌<◌, ◌≤◌, length};
 ghost use Rattle.report_text.specs.Lines.{bad_line, list_line, process_line, checkpoint_line, stats_line, exported_line, regs_line, register_line, dump_line, disasm_line, disasm_line_by};
 ghost use Rattle.sizes.specs.declared.TheConstants.{LINE_BYTES};
-ghost use Rattle.image_lines.specs.Lines.{image_line};
+ghost use Rattle.image_lines.specs.Lines.{image_line, printed};
+ghost use Rattle.report_text.specs.declared.TheConstants.{BLOCK_BYTES};
 ghost use Rattle.rv_mul.specs.Tables.{is_any};
 ghost use Rattle.report_text.specs.Answers.{HasAnswerLine, HasPort, IsCheckpointName, answer_text, turn_text, has_turn_line, stop_text};
 
 use crate::lines::{
     put_bad, put_break, put_checkpoint, put_disasm, put_dump, put_exited, put_exported,
-    put_faulted, put_forked, put_full, put_full_turn, put_image, put_list, put_loaded, put_process,
-    put_ran, put_refused, put_register, put_regs, put_saved, put_shared, put_stats, put_wrote,
+    put_faulted, put_forked, put_full, put_full_turn, put_image, put_image_lines, put_imported, put_list,
+    put_loaded, put_process, put_ran, put_refused, put_register, put_regs, put_saved, put_shared,
+    put_stats, put_wrote,
 };
 use crate::push::push_text;
 use crate::{Answer, Line, ROW_BYTES, Stop};
@@ -27,6 +29,7 @@ pub fn answer_line(a: &Answer, out: &mut Line)
         Answer::Loaded(p, pages, entry) => put_loaded(out, *p, *pages, *entry),
         Answer::Forked(p, new) => put_forked(out, *p, *new),
         Answer::Saved(p, name, space) => put_saved(out, *p, name.as_slice(), *space),
+        Answer::Imported(name, space, pages) => put_imported(out, name.as_slice(), *space, *pages),
         Answer::Shared(pages) => put_shared(out, *pages),
         Answer::Refused(code) => put_refused(out, *code),
         Answer::Full(units, limit) => put_full(out, *units, *limit),
@@ -124,6 +127,15 @@ pub fn image_line(bytes: &[u8], out: &mut Line)
 {
     out.clear();
     put_image(out, bytes);
+}
+
+/// So many bytes of an image, at most 2,048, with those behind them on lines of their own: their lines, one behind the other.
+pub fn image_lines(bytes: &[u8], out: &mut Line)
+    requires { length bytes.now ≤ BLOCK_BYTES }
+    ensures { out.new.items ≡ printed bytes.now }
+{
+    out.clear();
+    put_image_lines(out, bytes);
 }
 
 /// The first line of a process's registers: its state.

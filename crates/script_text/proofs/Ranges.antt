@@ -9,7 +9,7 @@ use Rattle.ovl_io.specs.declared.perms.Perms.{Perms}
 use Rattle.script_text.specs.declared.TheConstants.{MOST_CHECKPOINT_NAME, MOST_DUMPED, MOST_PAGES, MOST_TURNS, MOST_WORDS, PC_NUMBER}
 use Rattle.sizes.specs.declared.TheConstants.{LAST_SPACE, MOST_FILE_NAME}
 use Rattle.script_text.specs.declared.command.Command.{Command}
-use Rattle.script_text.specs.declared.command.Command.TheVariants.{Exec, Load, Asm, Fork, Run, Step, Checkpoint, Restore, Forget, Speculate, Commit, Discard, Promote, PromoteAll, Drop}
+use Rattle.script_text.specs.declared.command.Command.TheVariants.{Exec, Load, Asm, Fork, Run, Step, Checkpoint, Restore, Forget, Export, Import, Speculate, Commit, Discard, Promote, PromoteAll, Drop}
 use Rattle.script_text.specs.declared.command.Command.TheVariants as command
 use Rattle.script_text.specs.declared.command.Meaning.TheVariants.{Does, Nothing, Outside}
 use Rattle.script_text.specs.Words.{words_of}
@@ -171,6 +171,9 @@ all_give =
     beside two_given IsProcess IsCheckpoint process_word checkpoint_word Checkpoint process_given checkpoint_given (λ a b h k. (h, k))
     beside two_given IsProcess IsCheckpoint process_word checkpoint_word Restore process_given checkpoint_given (λ a b h k. (h, k))
     beside one_given IsCheckpoint checkpoint_word Forget checkpoint_given (λ a h. h)
+    beside two_given IsCheckpoint IsCheckpoint checkpoint_word checkpoint_word Export checkpoint_given checkpoint_given (λ a b h k. (h, k))
+    beside then_given IsCheckpoint checkpoint_word (λ a. two_words checkpoint_word file_word (Import a)) checkpoint_given
+    (λ a h. two_given IsCheckpoint HasName checkpoint_word file_word (Import a) checkpoint_given file_given (λ b f k l. (h, k, l)))
     beside one_given IsProcess process_word Speculate process_given (λ a h. h)
     beside one_given IsProcess process_word Commit process_given (λ a h. h)
     beside one_given IsProcess process_word Discard process_given (λ a h. h)

@@ -90,6 +90,8 @@ apart =
     beside (λ words command is. refl)
     beside (λ words command is. refl)
     beside (λ words command is. refl)
+    beside (λ words command is. refl)
+    beside (λ words command is. refl)
     beside (λ words command is. ap (λ o. cons_option o []) (page_or_all words command is))
     beside (λ words command is. refl)
     beside (λ words command is. ap (λ o. cons_option o []) (one_or_each words command is))

@@ -3,7 +3,7 @@ use Rattle.std.specs.Option.{option_and_then, option_or}
 use Rattle.std.specs.List.{filter_map}
 use lib.Pointwise.{pointwise}
 use Rattle.script_text.specs.declared.command.Command.{Command}
-use Rattle.script_text.specs.declared.command.Command.TheVariants.{Exec, Load, Asm, Fork, Run, Step, Checkpoint, Restore, Forget, Speculate, Commit, Discard, Promote, PromoteAll, Drop}
+use Rattle.script_text.specs.declared.command.Command.TheVariants.{Exec, Load, Asm, Fork, Run, Step, Checkpoint, Restore, Forget, Export, Import, Speculate, Commit, Discard, Promote, PromoteAll, Drop}
 use Rattle.script_text.specs.declared.command.Command.TheVariants as command
 use Rattle.script_text.specs.Kinds.{Kind, file_word, checkpoint_word, turns_word, process_word, address_word, pages_word, perms_word, register_word, dumped_word, words_word, hex_word, all_word}
 
@@ -52,6 +52,8 @@ machine_forms =
     ∷ form (codes "checkpoint") (two_words process_word checkpoint_word Checkpoint)
     ∷ form (codes "restore") (two_words process_word checkpoint_word Restore)
     ∷ form (codes "forget") (one_word checkpoint_word Forget)
+    ∷ form (codes "export") (two_words checkpoint_word checkpoint_word Export)
+    ∷ form (codes "import") (three_words checkpoint_word checkpoint_word file_word Import)
     ∷ form (codes "speculate") (one_word process_word Speculate)
     ∷ form (codes "commit") (one_word process_word Commit)
     ∷ form (codes "discard") (one_word process_word Discard)

@@ -5,7 +5,7 @@ use Rattle.ovl_io.specs.Outside.{HasName}
 use Rattle.sizes.specs.declared.TheConstants.{LAST_SPACE}
 use Rattle.script_text.specs.declared.TheConstants.{MOST_CHECKPOINT_NAME, MOST_DUMPED, MOST_PAGES, MOST_POKED, MOST_TURNS, MOST_WORDS, PC_NUMBER}
 use Rattle.script_text.specs.declared.command.Command.{Command}
-use Rattle.script_text.specs.declared.command.Command.TheVariants.{Exec, Load, Asm, Fork, Run, Step, Checkpoint, Restore, Forget, Speculate, Commit, Discard, Promote, PromoteAll, Drop}
+use Rattle.script_text.specs.declared.command.Command.TheVariants.{Exec, Load, Asm, Fork, Run, Step, Checkpoint, Restore, Forget, Export, Import, Speculate, Commit, Discard, Promote, PromoteAll, Drop}
 use Rattle.script_text.specs.declared.command.Command.TheVariants as command
 
 -- What a command that a script gives asks for, and what holds of it.
@@ -15,10 +15,12 @@ abbrev pub asks : Command → Option (List ℕ)
 asks (Exec name turns) = Some name
 asks (Load name) = Some name
 asks (Asm name) = Some name
+asks (Import name base file) = Some file
 asks (command.Fork p) = None
 asks (command.Checkpoint p name) = None
 asks (command.Restore p name) = None
 asks (command.Forget name) = None
+asks (command.Export name base) = None
 asks (command.Speculate p) = None
 asks (command.Commit p) = None
 asks (command.Discard p) = None
@@ -88,6 +90,8 @@ IsGiven (Step p turns) = IsProcess p × IsTurns turns
 IsGiven (Checkpoint p name) = IsProcess p × IsCheckpoint name
 IsGiven (Restore p name) = IsProcess p × IsCheckpoint name
 IsGiven (Forget name) = IsCheckpoint name
+IsGiven (Export name base) = IsCheckpoint name × IsCheckpoint base
+IsGiven (Import name base file) = IsCheckpoint name × IsCheckpoint base × HasName file
 IsGiven (Speculate p) = IsProcess p
 IsGiven (Commit p) = IsProcess p
 IsGiven (Discard p) = IsProcess p

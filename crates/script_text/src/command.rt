@@ -27,6 +27,11 @@ pub enum Command {
     Restore(u16, Bytes),
     /// Gives up what was kept under a name.
     Forget(Bytes),
+    /// Prints what was kept under a name as lines that differ from what was kept under another.
+    Export(Bytes, Bytes),
+    /// Keeps under a name what such lines of a file make of what was kept under another: the name, the other one,
+    /// and the file.
+    Import(Bytes, Bytes, Bytes),
     /// Begins a speculation of a process.
     Speculate(u16),
     /// Ends it, and keeps what was done.
@@ -79,6 +84,7 @@ impl Command {
             Command::Exec(name, _) => Some(name),
             Command::Load(name) => Some(name),
             Command::Asm(name) => Some(name),
+            Command::Import(_, _, file) => Some(file),
             Command::Run(_)
             | Command::Step(_, _)
             | Command::List
@@ -90,6 +96,7 @@ impl Command {
             | Command::Checkpoint(_, _)
             | Command::Restore(_, _)
             | Command::Forget(_)
+            | Command::Export(_, _)
             | Command::Speculate(_)
             | Command::Commit(_)
             | Command::Discard(_)

@@ -5,7 +5,7 @@ ghost use Rattle.script_text.specs.Kinds.{file_word, checkpoint_word, turns_word
 ghost use Rattle.script_text.specs.Forms.{no_words, one_word, two_words, three_words, four_words, machine_forms, debugger_forms, made_by, command_of};
 ghost use Rattle.script_text.specs.Script.{is_comment, meaning_of};
 ghost use Rattle.script_text.specs.declared.command.Command.{Command};
-ghost use Rattle.script_text.specs.declared.command.Command.TheVariants.{Exec, Load, Asm, Fork, Run, Step, Checkpoint, Restore, Forget, Speculate, Commit, Discard, Promote, PromoteAll, Drop};
+ghost use Rattle.script_text.specs.declared.command.Command.TheVariants.{Exec, Load, Asm, Fork, Run, Step, Checkpoint, Restore, Forget, Export, Import, Speculate, Commit, Discard, Promote, PromoteAll, Drop};
 ghost use Rattle.script_text.specs.declared.command.Command.TheVariants as command;
 
 use crate::command::{Command, Meaning};
@@ -162,6 +162,48 @@ fn forget(alloc: Global, words: &[u8]) -> Result<Option<Command>, AllocError>
     };
     match checkpoint_word(alloc, name)? {
         Some(name) => Ok(Some(Command::Forget(name))),
+        None => Ok(None),
+    }
+}
+
+/// `export NAME BASE`
+fn export(alloc: Global, words: &[u8]) -> Result<Option<Command>, AllocError>
+    ensures { IfOk result (λ command. command
+        ≡ two_words checkpoint_word checkpoint_word Export (words_of words.now)) }
+{
+    let (name, base) = match two_words(words) {
+        Some(words) => words,
+        None => return Ok(None),
+    };
+    let name = match checkpoint_word(alloc, name)? {
+        Some(name) => name,
+        None => return Ok(None),
+    };
+    match checkpoint_word(alloc, base)? {
+        Some(base) => Ok(Some(Command::Export(name, base))),
+        None => Ok(None),
+    }
+}
+
+/// `import NEW BASE FILE`
+fn import(alloc: Global, words: &[u8]) -> Result<Option<Command>, AllocError>
+    ensures { IfOk result (λ command. command
+        ≡ three_words checkpoint_word checkpoint_word file_word Import (words_of words.now)) }
+{
+    let (name, base, file) = match three_words(words) {
+        Some(words) => words,
+        None => return Ok(None),
+    };
+    let name = match checkpoint_word(alloc, name)? {
+        Some(name) => name,
+        None => return Ok(None),
+    };
+    let base = match checkpoint_word(alloc, base)? {
+        Some(base) => base,
+        None => return Ok(None),
+    };
+    match file_word(alloc, file)? {
+        Some(file) => Ok(Some(Command::Import(name, base, file))),
         None => Ok(None),
     }
 }
@@ -442,6 +484,10 @@ fn machine_command(alloc: Global, first: &[u8], words: &[u8]) -> Result<Option<C
         restore(alloc, words)
     } else if first == b"forget".as_slice() {
         forget(alloc, words)
+    } else if first == b"export".as_slice() {
+        export(alloc, words)
+    } else if first == b"import".as_slice() {
+        import(alloc, words)
     } else if first == b"speculate".as_slice() {
         Ok(speculate(words))
     } else if first == b"commit".as_slice() {

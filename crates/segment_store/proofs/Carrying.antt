@@ -12,7 +12,7 @@ use Rattle.segment_store.specs.Kept.{IsStore}
 use Rattle.segment_store.specs.Changes.{WholeSegmentsStay, GoesAlong, KeepsFrames, KeepsScratch, KeepsSegment, MovesSegments, block_of}
 use Rattle.segment_store.specs.Laws.{line_lies, some_none, stays}
 use Rattle.segment_store.specs.declared.segment.Segment.{Segment}
-use Rattle.segment_store.proofs.Copies.{copied_in, copied_out}
+use Rattle.line_store.specs.LineLaws.{copied_in, copied_out}
 
 -- A move: lines, segments and blocks of one range go to another.
 

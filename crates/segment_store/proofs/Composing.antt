@@ -7,7 +7,7 @@ use Rattle.unit_map.specs.Pieces.{ArePieces, IsPiece, taken_at, units_in}
 use Rattle.unit_map.specs.declared.block.Block.{Block}
 use Rattle.overlay_bits.specs.Lines.{AreLines, has_line}
 use Rattle.overlay_bits.specs.Laws.{has_next, has_with, next_inside, with_next}
-use Rattle.segment_store.proofs.Copies.{put_in, put_out}
+use Rattle.line_store.specs.LineLaws.{put_in, put_out}
 use Rattle.segment_store.specs.Store.{Store, IsFrame, IsSegment, composed_line, frame_line, line_in, segment_at}
 use Rattle.segment_store.specs.Places.{CopiesPage, HasLaidOver, IsApartFrom, LaysOver, LiftsLines}
 use Rattle.segment_store.specs.Kept.{IsStore}

@@ -10,7 +10,7 @@ use Rattle.segment_store.specs.Kept.{IsStore}
 use Rattle.segment_store.specs.Changes.{CopiesSegment, KeepsLinesOutside}
 use Rattle.segment_store.specs.Laws.{inside_of, lies_at, lines_there, pointers_there}
 use Rattle.segment_store.specs.declared.segment.Segment.{Segment}
-use Rattle.segment_store.proofs.Copies.{copied_in, copied_out}
+use Rattle.line_store.specs.LineLaws.{copied_in, copied_out}
 
 -- A segment is copied for another owner.
 

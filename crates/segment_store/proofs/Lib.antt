@@ -4,7 +4,6 @@ pub mod Making
 pub mod Behind
 pub mod Beginning
 pub mod Filling
-pub mod Copies
 pub mod Lifting
 pub mod Laying
 pub mod Scratch

@@ -45,24 +45,33 @@ same_in scratch block front old mid apart are lift x from to = lift.others x (λ
     off (inl h) low e = omega (arith, h, from, low, e)
     off (inr h) low e = omega (arith, h, to, e)
 
+-- a line of the block is none of the 64
+pub is_other : (block : Block) (first x y : ℕ) → IsApartFrom block first → 4 * block.unit ≤ x → x < 4 * (block.unit + 2 ^ block.order) → first ≤ y → y < first + 64 → (x < y) ⊎ (y < x)
+is_other block first x y (inl h) from to above below = inr (omega (arith, h, from, below))
+is_other block first x y (inr h) from to above below = inl (omega (arith, h, to, above))
+
 -- what is known of the next line
-pub record IsNextLifted (block : Block) (line : ℕ) (mid : List (List ℕ)) : Type 0 where
+pub record IsNextLifted (block : Block) (line : ℕ) (old mid : List (List ℕ)) : Type 0 where
   pub low : line < 64
+  pub above : 4 * block.unit ≤ place_in mid block.unit block.order line
   pub below : place_in mid block.unit block.order line < 4 * (block.unit + 2 ^ block.order)
+  pub pointers : line_of mid (4 * block.unit) ≡ line_of old (4 * block.unit)
   pub within : HasBlock mid block
 
 pub next_lifted : (scratch : ℕ) (block : Block) (bits front : List ℕ) (line : ℕ) (rest : List ℕ) (old mid : List (List ℕ))
     → AreLines bits → HasBlock old block → IsApartFrom block scratch → ((line : ℕ) → has_line bits line ≡ true → LiesIn old block.unit block.order line)
-    → (left : List ℕ) → left ≡ line ∷ rest → HasLifted scratch block bits front left old mid → IsNextLifted block line mid
+    → (left : List ℕ) → left ≡ line ∷ rest → HasLifted scratch block bits front left old mid → IsNextLifted block line old mid
 next_lifted scratch block bits front line rest old mid are within apart lie left next found =
     let h = subst (λ l. HasLifted scratch block bits front l old mid) next found in
     let has_it : has_line bits line ≡ true = ap (λ l. has_line l line) h.whole ∙ has_next front line rest in
     let l = lie line has_it in
-    let was = place_same mid old block.unit block.order line within.order (λ less. ap (λ p. slot_of p line)
-    (same_in scratch block front old mid apart (are_front front (line ∷ rest) (subst AreLines h.whole are)) h.lifted (4 * block.unit) (omega arith) (omega (arith, l.from, l.to)))) in
+    let pointers = same_in scratch block front old mid apart (are_front front (line ∷ rest) (subst AreLines h.whole are)) h.lifted (4 * block.unit) (omega arith) (omega (arith, l.from, l.to)) in
+    let was = place_same mid old block.unit block.order line within.order (λ less. ap (λ p. slot_of p line) pointers) in
     record {
       low = next_inside front line rest (subst AreLines h.whole are);
+      above = omega (arith, was, l.from);
       below = omega (arith, was, l.to);
+      pointers = pointers;
       within = record { order = within.order; inside = omega (arith, within.inside, h.lifted.size); few = omega (arith, within.few, h.lifted.size) };
     }
 

@@ -119,10 +119,10 @@ impl StoreLines {
     pub(crate) fn copy_line(&mut self, from: u32, to: u32)
         requires source { from + PAGE_LINES < length self.old }
         requires target { to + PAGE_LINES < length self.old }
+        requires other { (from < to) ⊎ (to < from) }
         ensures { self.new ≡ slice_set self.old to (line_of self.old from) }
     {
-        let bytes = *self.units.line(from);
-        self.units.put_line(to, &bytes);
+        self.units.copy_lines(from, to, 1);
     }
 
     /// Copies a line before scratch to a line of scratch.

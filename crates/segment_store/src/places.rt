@@ -88,8 +88,9 @@ pub(crate) fn lay_in_page(region: &mut StoreLines, block: Block, bits: Bits, fir
     ensures are { AreLines bits }
     ensures lifts { LiftsLines first block bits region.old region.new }
 {
+    let pointers = *region.line(4 * block.unit);
     'laying: for line in bits.iter() {
-        let at = place(region, block, line);
+        let at = place_by(&pointers, block, line);
         region.copy_line(at, first + u32::from(line));
     }
 }

@@ -1,15 +1,15 @@
 //! What the three requests do to a process.
 
-ghost use Rattle.std.specs.Prelude.{◌≡◌, None, Some, true};
+ghost use Rattle.std.specs.Prelude.{◌≡◌, ℕ, List, None, Some, true};
 ghost use Rattle.std.specs.FinMap.{empty, get};
 ghost use Rattle.space_maps.specs.Spaces.{space_in};
 ghost use Rattle.machine_core.specs.Machine.{has_saved, has_space, is_marked, is_running, spaces_of, wholes};
+ghost use Rattle.machine_core.specs.BareTurns.{turn_with};
 ghost use Rattle.self_speculation.specs.Called.{not_done, row_of};
 ghost use Rattle.self_speculation.specs.Requests.{AnswersCall, DoesCall, DoesRow, FindsCall, IsFullRow, WereAtRequest, guest_at_request, turn_of_answer, whole_at};
 
 use crate::{ECALL, NOT_DONE};
-use machine_core::{Machine, Process, SavedRegs};
-use ovl_io::Turn;
+use machine_core::{BareTurn, Machine, Process, SavedRegs};
 use process_calls::{ProcessCall, call_at, gone_on, kept};
 use rv_execute::Regs;
 use speculation::{SpeculationError, commit, discard, start};
@@ -24,13 +24,13 @@ pub(crate) enum CallAnswer {
 }
 
 impl CallAnswer {
-    /// What came of the turn. It is made here alone, since a turn has room for all that a process may write.
-    pub(crate) fn turn(self) -> Turn
-        ensures { result ≡ turn_of_answer self }
+    /// What came of the turn, which wrote nothing.
+    pub(crate) fn turn(self) -> BareTurn
+        ensures { (bytes : List ℕ) → turn_with result bytes ≡ turn_of_answer self }
     {
         match self {
-            CallAnswer::GoesOn => Turn::Stepped,
-            CallAnswer::Full(needed, limit) => Turn::Full(needed, limit),
+            CallAnswer::GoesOn => BareTurn::Stepped,
+            CallAnswer::Full(needed, limit) => BareTurn::Full(needed, limit),
         }
     }
 }
@@ -153,12 +153,7 @@ fn go_back(
 {
     match discard(machine.memory_mut(), p) {
         Ok(()) => {
-            let left = Process {
-                regs: saved.regs,
-                state: saved.state,
-                saved: None,
-            };
-            machine.set_process(p, left);
+            machine.set_process(p, saved.process());
             CallAnswer::GoesOn
         }
         Err(_) => refuse(machine, p, process, at),

@@ -42,8 +42,27 @@ fn answers_are_printed(rt: HostRuntime) -> Result<(), Fail> {
 }
 
 #[test]
+fn imports_are_printed(rt: HostRuntime) -> Result<(), Fail> {
+    let name = Bytes::new(Vec::from_slice(rt.alloc(), b"c-0")?);
+    let long = Bytes::new(Vec::from_elem(rt.alloc(), b'Z', 32)?);
+    let rows: [(Answer, &[u8]); 2] = [
+        (Answer::Imported(name, 3, 17), b"imported c-0 3 pages 17\n"),
+        (
+            Answer::Imported(long, 32767, 131072),
+            b"imported ZZZZZZZZZZZZZZZZZZZZZZZZZZZZZZZZ 32767 pages 131072\n",
+        ),
+    ];
+    let mut out = Line::new();
+    for (answer, want) in &rows {
+        answer_line(answer, &mut out);
+        assert!(rt; out.as_slice() == *want);
+    }
+    Ok(())
+}
+
+#[test]
 fn refusals_are_printed(rt: HostRuntime) -> Result<(), Fail> {
-    let rows: [(Code, &[u8]); 13] = [
+    let rows: [(Code, &[u8]); 16] = [
         (Code::NoProcess, b"refused C1 no-process\n"),
         (Code::NotSpeculating, b"refused C4 not-speculating\n"),
         (Code::NameTaken, b"refused C6 name-taken\n"),
@@ -58,11 +77,14 @@ fn refusals_are_printed(rt: HostRuntime) -> Result<(), Fail> {
         (Code::NotAlone, b"refused C12 not-alone\n"),
         (Code::FrameHere, b"refused C13 frame-here\n"),
         (Code::NotAlike(32), b"refused C14 not-alike 32\n"),
+        (Code::TooLarge(4194305), b"refused C15 too-large 4194305\n"),
         (Code::Elf(ElfError::TooShort), b"refused E1 too-short\n"),
         (
             Code::Elf(ElfError::NothingToLoad),
             b"refused E14 nothing-to-load\n",
         ),
+        (Code::ImageLine(65536), b"refused I1 bad-line 65536\n"),
+        (Code::BadImage, b"refused I2 bad-image\n"),
     ];
     let mut out = Line::new();
     for (code, want) in rows {

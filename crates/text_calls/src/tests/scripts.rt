@@ -4,6 +4,7 @@ ghost use Rattle.sizes.specs.declared.TheConstants.{MOST_SCRIPT_BYTES};
 mod checkpoint_rows;
 mod debugger_rows;
 mod dedup_rows;
+mod image_rows;
 mod long_rows;
 mod mapping_rows;
 mod overlay_rows;
@@ -13,6 +14,7 @@ use bitflags::Flags;
 use checkpoint_rows::CHECKPOINT_ROWS;
 use debugger_rows::DEBUGGER_ROWS;
 use dedup_rows::DEDUP_ROWS;
+use image_rows::IMAGE_ROWS;
 use long_rows::LONG_ROWS;
 use mapping_rows::MAPPING_ROWS;
 use overlay_rows::OVERLAY_ROWS;
@@ -52,6 +54,20 @@ fn show(alloc: Global, command: &Command, out: &mut Vec<u8>) -> Result<(), Alloc
         Command::Forget(name) => {
             out.extend_from_slice(b"forget ")?;
             return out.extend_from_slice(name.as_slice());
+        }
+        Command::Export(name, base) => {
+            out.extend_from_slice(b"export ")?;
+            out.extend_from_slice(name.as_slice())?;
+            out.push(b' ')?;
+            return out.extend_from_slice(base.as_slice());
+        }
+        Command::Import(name, base, file) => {
+            out.extend_from_slice(b"import ")?;
+            out.extend_from_slice(name.as_slice())?;
+            out.push(b' ')?;
+            out.extend_from_slice(base.as_slice())?;
+            out.push(b' ')?;
+            return out.extend_from_slice(file.as_slice());
         }
         Command::Speculate(p) => format!(in alloc; "speculate {p}")?,
         Command::Commit(p) => format!(in alloc; "commit {p}")?,
@@ -142,6 +158,7 @@ fn scripts_say_what_the_grammar_says(rt: HostRuntime) -> Result<(), Fail> {
         MAPPING_ROWS,
         OVERLAY_ROWS,
         DEDUP_ROWS,
+        IMAGE_ROWS,
         DEBUGGER_ROWS,
         LONG_ROWS,
     ] {
@@ -155,7 +172,7 @@ fn scripts_say_what_the_grammar_says(rt: HostRuntime) -> Result<(), Fail> {
             rows = rows.saturating_add(1);
         }
     }
-    assert_eq!(rt; rows, 1677);
+    assert_eq!(rt; rows, 1870);
     Ok(())
 }
 

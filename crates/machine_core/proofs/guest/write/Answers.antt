@@ -1,4 +1,4 @@
-use Rattle.std.proofs.Common.{ap, sym, ◌∙◌, min}
+use Rattle.std.proofs.Common.{sym, ◌∙◌}
 use Rattle.overlay_pages.specs.State.{memory_of}
 use Rattle.overlay_memory.specs.View.{state_of, translations_of}
 use Rattle.machine_core.proofs.Requests.{write_beside, write_none}
@@ -12,4 +12,4 @@ returns-then-descriptor-ne2-clause-lists c =
 pub returns-then-count-eq0-clause-lists : goal.returns-then-count-eq0-clause-lists
 returns-then-count-eq0-clause-lists c =
     write_none c.args.p c.args.process.now.regs (memory_of (state_of c.args.memory.now) c.args.p) (translations_of c.args.memory.now)
-    (sym (ap (λ n. min n 4096) c.get.ensures.value) ∙ sym c.min-count.ensures ∙ c.if-count-eq0.true)
+    (sym c.requires.room ∙ c.if-count-eq0.true)

@@ -5,6 +5,8 @@ use Rattle.overlay_memory.specs.View.{state_of}
 use Rattle.machine_core.specs.declared.process.Process as declared
 use Rattle.machine_core.specs.Turns.{answered_by, asked_found, guest_answered, translations_asked}
 use Rattle.machine_core.specs.Laws.{guests_same, like_answered, like_asked, runs_shown}
+use Rattle.std.specs.Option.{option_map_or}
+use Rattle.machine_core.specs.BareTurns.{bytes_asked}
 use Rattle.machine_core.specs.Machine.{wholes}
 use Rattle.machine_core.specs.Kept.{guest_in, guest_seen, machine_of}
 use Rattle.machine_core.proofs.Listed.{runs_put}
@@ -19,6 +21,9 @@ pub answer_request-turn-requires-clause-runs : goal.answer_request-turn-requires
 answer_request-turn-requires-clause-runs c =
     let old = machine_of false c.args.memory.now c.args.processes.now in
     state_is old c.args.p c.in-Some.process.now (sym c.in-Some.ensures.value) (runs_shown old c.args.p ∙ c.requires.runs)
+
+pub answer_request-turn-requires-clause-room : goal.answer_request-turn-requires-clause-room
+answer_request-turn-requires-clause-room c = c.requires.room ∙ ap (λ o. option_map_or (λ (process : declared.Process). bytes_asked process.regs) o 0) (sym c.in-Some.ensures.value)
 
 pub returns-clause-answers : goal.returns-clause-answers
 returns-clause-answers c extension state stands =

@@ -1,9 +1,10 @@
+use Rattle.machine_core.specs.BareTurns.{turn_with}
 use Rattle.process_runs.specs.PlaceLaws.{free_stays, perms_stay, process_there}
 use Rattle.process_runs.proofs.Ports.{answer_port}
 use Rattle.process_runs.proofs.taking.answer_request.Goals as goal
 
 pub returns-clause-port : goal.returns-clause-port
-returns-clause-port c = answer_port c.args.machine.now c.args.p c.answer.result c.answer.ensures.came
+returns-clause-port c = answer_port c.args.machine.now c.args.p (turn_with c.answer.result c.answer.new.bytes) c.answer.ensures.came
 
 pub returns-clause-free : goal.returns-clause-free
 returns-clause-free c =

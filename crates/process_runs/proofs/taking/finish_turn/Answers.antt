@@ -1,5 +1,6 @@
 use Rattle.rv_execute.specs.declared.outcome.Outcome.TheVariants.{Stepped, Fault, Full}
 use Rattle.machine_core.specs.Machine.{wholes}
+use Rattle.machine_core.specs.BareTurns.{turn_with}
 use Rattle.process_runs.proofs.Stretching.{rest_asked, rest_none}
 use Rattle.process_runs.proofs.taking.finish_turn.Goals as goal
 
@@ -9,7 +10,7 @@ returns-in-Stepped-clause-turn c = rest_none c.args.calls Stepped c.args.outcome
 pub returns-in-Asked-clause-turn : goal.returns-in-Asked-clause-turn
 returns-in-Asked-clause-turn c =
     let done = c.answer_request in
-    rest_asked c.args.calls c.args.outcome done.result c.args.p (wholes c.args.machine.now) (wholes done.new.machine) c.in-Asked.is done.ensures.answers
+    rest_asked c.args.calls c.args.outcome (turn_with done.result done.new.bytes) c.args.p (wholes c.args.machine.now) (wholes done.new.machine) c.in-Asked.is done.ensures.answers
 
 pub returns-in-Fault-clause-turn : goal.returns-in-Fault-clause-turn
 returns-in-Fault-clause-turn c =

@@ -1,6 +1,6 @@
 use Rattle.std.proofs.Common.{◌+◌, ◌*◌, ◌≤◌, length, ap, ◌∙◌, arith}
 use Rattle.line_store.specs.Lines.{line_of}
-use Rattle.segment_store.proofs.Copies.{copied_in, copied_out}
+use Rattle.line_store.specs.LineLaws.{copied_in, copied_out}
 use Rattle.segment_store.proofs.places.copy_page.Goals as goal
 
 pub returns-then-from-to : goal.returns-then-from-to

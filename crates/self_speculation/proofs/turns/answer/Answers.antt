@@ -2,6 +2,7 @@ use Rattle.std.proofs.Common.{subst, sym, inl, inr}
 use Rattle.translation_cache.specs.Absent.{HasNone}
 use Rattle.ovl_io.specs.declared.turn.Turn.{Turn}
 use Rattle.machine_core.specs.Machine.{wholes}
+use Rattle.machine_core.specs.BareTurns.{turn_with}
 use Rattle.machine_core.specs.Turns.{after_asked}
 use Rattle.machine_core.specs.Absent.{none_after_asked}
 use Rattle.machine_core.specs.PermsLaws.{asked_leaves, perms_after}
@@ -18,7 +19,7 @@ pub returns-in-Some-clause-answers : goal.returns-in-Some-clause-answers
 returns-in-Some-clause-answers c =
     let done = c.answer_call in
     let came = turn_of_answer done.result in
-    subst (λ (t : Turn). AnswersRequest c.args.calls c.args.p (wholes c.args.machine.now) t (wholes done.new.machine)) (sym c.turn.ensures)
+    subst (λ (t : Turn). AnswersRequest c.args.calls c.args.p (wholes c.args.machine.now) t (wholes done.new.machine)) (sym (c.turn.ensures c.args.bytes.now))
     (finds_call c.args.calls c.args.p c.args.machine.now c.in-Some.asked.0 c.in-Some.asked.1 came done.new.machine c.in-Some.ensures done.ensures.answers)
 
 pub returns-in-Some-clause-others : goal.returns-in-Some-clause-others
@@ -43,7 +44,7 @@ pub returns-in-Some-clause-came : goal.returns-in-Some-clause-came
 returns-in-Some-clause-came c =
     let done = c.answer_call in
     let (process, there, does) = done.ensures.answers in
-    subst (IsAnswer c.args.p c.args.machine.now) (sym c.turn.ensures)
+    subst (IsAnswer c.args.p c.args.machine.now) (sym (c.turn.ensures c.args.bytes.now))
     (inr (quiet_call c.args.p c.in-Some.asked.1 process c.in-Some.asked.0 c.args.machine.now (turn_of_answer done.result) done.new.machine does))
 
 -- what the machine answers to every process
@@ -51,7 +52,7 @@ returns-in-Some-clause-came c =
 pub returns-in-None-clause-answers : goal.returns-in-None-clause-answers
 returns-in-None-clause-answers c =
     let old = wholes c.args.machine.now in
-    finds_none c.args.calls c.args.p c.args.machine.now c.answer.result c.answer.new.self c.in-None.ensures (c.answer.ensures.answers old (like_itself old)) (c.answer.ensures.stands old (like_itself old))
+    finds_none c.args.calls c.args.p c.args.machine.now (turn_with c.answer.result c.answer.new.bytes) c.answer.new.self c.in-None.ensures (c.answer.ensures.answers old (like_itself old)) (c.answer.ensures.stands old (like_itself old))
 
 pub returns-in-None-clause-unseen : goal.returns-in-None-clause-unseen
 returns-in-None-clause-unseen c q other none =

@@ -5,30 +5,30 @@ use Rattle.self_speculation.specs.RequestLaws.{pairs_then, places_pairs}
 use Rattle.self_speculation.proofs.Eventing.{asked_answers, asked_stands, law_at, still_asks, turn_answers, turn_stands}
 use Rattle.self_speculation.proofs.turns.event.Goals as goal
 
-pub answer-requires-clause-runs : goal.answer-requires-clause-runs
-answer-requires-clause-runs c =
+pub answer_whole-requires-clause-runs : goal.answer_whole-requires-clause-runs
+answer_whole-requires-clause-runs c =
     still_asks c.args.calls c.args.p c.args.machine.now c.execute.new.self c.requires.runs c.in-Asked.ensures.stands c.in-Asked.ensures.answers
 
-pub answer-requires-clause-there : goal.answer-requires-clause-there
-answer-requires-clause-there c = c.in-Asked.ensures.places.spaces c.args.p ∙ c.requires.there
+pub answer_whole-requires-clause-there : goal.answer_whole-requires-clause-there
+answer_whole-requires-clause-there c = c.in-Asked.ensures.places.spaces c.args.p ∙ c.requires.there
 
-pub answer-requires-clause-none_awaits : goal.answer-requires-clause-none_awaits
-answer-requires-clause-none_awaits c = c.in-Asked.ensures.places.awaiting c.args.p ∙ c.requires.none_awaits
+pub answer_whole-requires-clause-none_awaits : goal.answer_whole-requires-clause-none_awaits
+answer_whole-requires-clause-none_awaits c = c.in-Asked.ensures.places.awaiting c.args.p ∙ c.requires.none_awaits
 
-pub answer-requires-clause-kept : goal.answer-requires-clause-kept
-answer-requires-clause-kept c = (places_pairs c.args.machine.now c.execute.new.self c.in-Asked.ensures.places).kept c.args.p c.requires.kept
+pub answer_whole-requires-clause-kept : goal.answer_whole-requires-clause-kept
+answer_whole-requires-clause-kept c = (places_pairs c.args.machine.now c.execute.new.self c.in-Asked.ensures.places).kept c.args.p c.requires.kept
 
 pub returns-in-Asked-clause-answers : goal.returns-in-Asked-clause-answers
 returns-in-Asked-clause-answers c =
-    asked_answers c.args.calls c.args.p c.args.machine.now c.execute.new.self c.requires.runs c.in-Asked.ensures.stands c.in-Asked.ensures.answers c.answer.result c.answer.new.machine c.answer.ensures.answers
+    asked_answers c.args.calls c.args.p c.args.machine.now c.execute.new.self c.requires.runs c.in-Asked.ensures.stands c.in-Asked.ensures.answers c.answer_whole.result c.answer_whole.new.machine c.answer_whole.ensures.answers
 
 pub returns-in-Asked-clause-stands : goal.returns-in-Asked-clause-stands
 returns-in-Asked-clause-stands c =
-    asked_stands c.args.calls c.args.p c.args.machine.now c.execute.new.self c.requires.runs c.in-Asked.ensures.stands c.in-Asked.ensures.answers c.answer.result c.answer.new.machine c.answer.ensures.answers
+    asked_stands c.args.calls c.args.p c.args.machine.now c.execute.new.self c.requires.runs c.in-Asked.ensures.stands c.in-Asked.ensures.answers c.answer_whole.result c.answer_whole.new.machine c.answer_whole.ensures.answers
 
 pub returns-in-Asked-clause-pairs : goal.returns-in-Asked-clause-pairs
 returns-in-Asked-clause-pairs c =
-    pairs_then c.args.machine.now c.execute.new.self c.answer.new.machine (places_pairs c.args.machine.now c.execute.new.self c.in-Asked.ensures.places) c.answer.ensures.pairs
+    pairs_then c.args.machine.now c.execute.new.self c.answer_whole.new.machine (places_pairs c.args.machine.now c.execute.new.self c.in-Asked.ensures.places) c.answer_whole.ensures.pairs
 
 pub returns-in-Stepped-clause-answers : goal.returns-in-Stepped-clause-answers
 returns-in-Stepped-clause-answers c =

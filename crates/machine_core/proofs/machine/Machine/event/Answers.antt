@@ -5,26 +5,26 @@ use Rattle.machine_core.specs.Ample.{amply_taken}
 use Rattle.machine_core.proofs.Eventing.{asked_answers, asked_stands, law_at, still_asks, turn_answers, turn_stands}
 use Rattle.machine_core.proofs.machine.Machine.event.Goals as goal
 
-pub answer-requires-clause-runs : goal.answer-requires-clause-runs
-answer-requires-clause-runs c =
+pub answer_whole-requires-clause-runs : goal.answer_whole-requires-clause-runs
+answer_whole-requires-clause-runs c =
     still_asks c.args.p c.args.self.now c.execute.new.self c.requires.runs c.in-Asked.ensures.stands c.in-Asked.ensures.answers
 
-pub answer-requires-clause-there : goal.answer-requires-clause-there
-answer-requires-clause-there c = c.in-Asked.ensures.places.spaces c.args.p ∙ c.requires.there
+pub answer_whole-requires-clause-there : goal.answer_whole-requires-clause-there
+answer_whole-requires-clause-there c = c.in-Asked.ensures.places.spaces c.args.p ∙ c.requires.there
 
-pub answer-requires-clause-none_awaits : goal.answer-requires-clause-none_awaits
-answer-requires-clause-none_awaits c = c.in-Asked.ensures.places.awaiting c.args.p ∙ c.requires.none_awaits
+pub answer_whole-requires-clause-none_awaits : goal.answer_whole-requires-clause-none_awaits
+answer_whole-requires-clause-none_awaits c = c.in-Asked.ensures.places.awaiting c.args.p ∙ c.requires.none_awaits
 
 pub returns-in-Asked-clause-answers : goal.returns-in-Asked-clause-answers
 returns-in-Asked-clause-answers c =
-    asked_answers c.args.p c.args.self.now c.execute.new.self c.requires.runs c.in-Asked.ensures.stands c.in-Asked.ensures.answers c.answer.result c.answer.ensures.answers
+    asked_answers c.args.p c.args.self.now c.execute.new.self c.requires.runs c.in-Asked.ensures.stands c.in-Asked.ensures.answers c.answer_whole.result c.answer_whole.ensures.answers
 
 pub returns-in-Asked-clause-stands : goal.returns-in-Asked-clause-stands
 returns-in-Asked-clause-stands c =
-    asked_stands c.args.p c.args.self.now c.execute.new.self c.requires.runs c.in-Asked.ensures.stands c.in-Asked.ensures.answers c.answer.new.self c.answer.ensures.stands
+    asked_stands c.args.p c.args.self.now c.execute.new.self c.requires.runs c.in-Asked.ensures.stands c.in-Asked.ensures.answers c.answer_whole.new.self c.answer_whole.ensures.stands
 
 pub returns-in-Asked-clause-ample : goal.returns-in-Asked-clause-ample
-returns-in-Asked-clause-ample c = amply_taken c.args.p c.args.self.now c.answer.result (returns-in-Asked-clause-answers c)
+returns-in-Asked-clause-ample c = amply_taken c.args.p c.args.self.now c.answer_whole.result (returns-in-Asked-clause-answers c)
 
 pub returns-in-Stepped-clause-answers : goal.returns-in-Stepped-clause-answers
 returns-in-Stepped-clause-answers c =
