@@ -8,9 +8,9 @@ ghost use Rattle.report_text.specs.Answers.{HasAnswerLine, HasPort, IsCheckpoint
 
 use crate::lines::{
     put_bad, put_break, put_checkpoint, put_disasm, put_dump, put_exited, put_exported,
-    put_faulted, put_forked, put_full, put_full_turn, put_image, put_image_lines, put_imported, put_list,
-    put_loaded, put_process, put_ran, put_refused, put_register, put_regs, put_saved, put_shared,
-    put_stats, put_wrote,
+    put_faulted, put_forked, put_full, put_full_turn, put_image, put_image_lines, put_imported,
+    put_list, put_loaded, put_process, put_ran, put_refused, put_register, put_regs, put_saved,
+    put_shared, put_stats, put_wrote,
 };
 use crate::push::push_text;
 use crate::{Answer, Line, ROW_BYTES, Stop};
