@@ -211,5 +211,8 @@ fn reach(lines: &mut Lines, count: u32, end: u32)
     ensures reached { (length lines.new.items ≡ count) ⊎ (end + 64 ≤ length lines.new.items) }
     ensures piece { (lines.new.at ≡ lines.old.at) × (lines.new.room ≡ lines.old.room) }
 {
-    lines.grow((end + 64).min(count) as usize);
+    // mostly they are kept already
+    if lines.as_slice().len() < end as usize + 64 {
+        lines.grow((end + 64).min(count) as usize);
+    }
 }

@@ -19,7 +19,7 @@ use crate::turns::{Order, Running};
 use breakpoints::{Addresses, Breakpoints};
 use machine_core::{BareTurn, Machine, Process};
 use ovl_io::{ProcessState, Turn};
-use report_text::{Line, Stop, turn_line};
+use report_text::{Line, Stop, turn_line, wrote_line};
 use rv_execute::Outcome;
 use self_speculation::{answer, event};
 use sizes::MOST_WRITTEN;
@@ -109,11 +109,19 @@ fn line_of(p: u16, came: BareTurn, bytes: &[u8], line: &mut Line) -> bool
     ensures text { line.new.items ≡ turn_text p (turn_with came bytes.now) }
     ensures has { result ≡ has_turn_line (turn_with came bytes.now) }
 {
-    if let BareTurn::Stepped = came {
-        line.clear();
-        return false;
+    match came {
+        BareTurn::Stepped => {
+            line.clear();
+            false
+        }
+        BareTurn::Wrote(port) => {
+            wrote_line(p, port, bytes, line);
+            true
+        }
+        BareTurn::Exited(_) | BareTurn::Faulted(_, _) | BareTurn::Full(_, _) => {
+            spoken(p, came, bytes, line)
+        }
     }
-    spoken(p, came, bytes, line)
 }
 
 /// The line of a turn, by the turn. It stands apart, since a turn has room for all that a process may write.

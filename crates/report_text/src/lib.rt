@@ -24,7 +24,7 @@ pub use push::Line;
 pub use report::{
     answer_line, bad_line, checkpoint_line, disasm_line, disasm_m_line, dump_line, exported_line,
     image_line, image_lines, list_line, process_line, register_line, regs_line, stats_line,
-    stop_line, turn_line,
+    stop_line, turn_line, wrote_line,
 };
 use sizes::{LINE_BYTES, MOST_WRITTEN};
 

@@ -1,6 +1,7 @@
 ghost use Rattle.std.specs.Prelude.{◌≡◌, ◌<◌, ◌≤◌, length};
 ghost use Rattle.report_text.specs.Lines.{bad_line, list_line, process_line, checkpoint_line, stats_line, exported_line, regs_line, register_line, dump_line, disasm_line, disasm_line_by};
-ghost use Rattle.sizes.specs.declared.TheConstants.{LINE_BYTES};
+ghost use Rattle.sizes.specs.declared.TheConstants.{LINE_BYTES, MOST_WRITTEN};
+ghost use Rattle.ovl_io.specs.declared.turn.Turn.TheVariants as turn;
 ghost use Rattle.image_lines.specs.Lines.{image_line, printed};
 ghost use Rattle.report_text.specs.declared.TheConstants.{BLOCK_BYTES};
 ghost use Rattle.rv_mul.specs.Tables.{is_any};
@@ -53,6 +54,17 @@ pub fn turn_line(p: u16, t: &Turn, out: &mut Line) -> bool
         Turn::Full(units, limit) => put_full_turn(out, p, *units, *limit),
     }
     true
+}
+
+/// The line of what process `p` wrote to port 1 or 2, as of a turn that wrote it. It takes the bytes from where they stand: a turn has
+/// room for all that a process may write, so it is dear to make.
+pub fn wrote_line(p: u16, port: u8, bytes: &[u8], out: &mut Line)
+    requires few { length bytes.now ≤ MOST_WRITTEN }
+    requires port { HasPort (turn.Wrote (port, bytes.now)) }
+    ensures { out.new.items ≡ turn_text p (turn.Wrote (port, bytes.now)) }
+{
+    out.clear();
+    put_wrote(out, p, port, bytes);
 }
 
 /// The line at the end of turns, of which so many were counted; at a breakpoint the line for it before that.
