@@ -11,7 +11,6 @@ pub mod Codes
 pub mod Listing
 pub mod MemoryRows
 pub mod Blocks
-pub mod Exports
 pub mod Registers
 pub mod Given
 pub mod Beginnings
