@@ -5,8 +5,8 @@ ghost use Rattle.std.specs.Option.{is_some, option_copied};
 ghost use Rattle.report_text.specs.Answers.{IsCheckpointName};
 ghost use Rattle.command_core.specs.Kept.{EntersName, kept_but, kept_named, kept_process};
 
-use indexmap::IndexMap;
 use machine_core::Process;
+use named_list::NamedList;
 use ovl_io::{Bytes, ProcessState};
 use rv_execute::Regs;
 use std::alloc::{AllocError, Global};
@@ -34,23 +34,23 @@ impl Kept {
     }
 }
 
-/// Checkpoints, of which no two have one name. One is found by its name without a search.
+/// Checkpoints, of which no two have one name. One is found by its name without going over the others, and one that goes moves no other.
 #[derive(Drop)]
 pub(crate) struct Checkpoints {
-    by_name: IndexMap<Vec<u8>, Kept>,
+    by_name: NamedList<Kept>,
 }
 
 impl Model for Checkpoints {
     ghost use Rattle.std.specs.Prelude.{List};
-    ghost use Rattle.indexmap.specs.IndexMap.{values};
+    ghost use Rattle.std.specs.Map.{values_of};
     ghost use Rattle.command_core.specs.declared.checkpoints.Kept.{Kept};
     ghost use Rattle.command_core.specs.Kept.{AreNamed};
 
     ghost Value = { List Kept };
 
-    ghost view = { λ c. values c.by_name };
+    ghost view = { λ c. values_of c.by_name };
 
-    ghost invariant = { λ c. AreNamed (λ key. key.items) c.by_name.entries };
+    ghost invariant = { λ c. AreNamed (λ name. name) c.by_name };
 }
 
 impl Checkpoints {
@@ -59,7 +59,7 @@ impl Checkpoints {
         ensures { result ≡ [] }
     {
         Checkpoints {
-            by_name: IndexMap::new(alloc),
+            by_name: NamedList::new(alloc),
         }
     }
 
@@ -74,7 +74,10 @@ impl Checkpoints {
     pub(crate) fn has(&self, name: &[u8]) -> bool
         ensures { result ≡ is_some (kept_named name.now self.now) }
     {
-        self.by_name.contains_key(name)
+        match self.get(name) {
+            Some(_) => true,
+            None => false,
+        }
     }
 
     /// The checkpoint of a place, in the order of making.
@@ -82,7 +85,7 @@ impl Checkpoints {
         ensures at { option_copied result ≡ slice_get self.now index }
         ensures named { IfSome result (λ x. IsCheckpointName x.now.name) }
     {
-        match self.by_name.get_index(index) {
+        match self.by_name.at(index) {
             Some((_, kept)) => Some(kept),
             None => None,
         }
@@ -101,7 +104,6 @@ impl Checkpoints {
         requires absent { kept_named name.now self.old ≡ None }
         ensures { EntersName name.now space process self.old self.new result }
     {
-        let key = Vec::from_slice(alloc, name.as_slice())?;
         let kept = Kept {
             name: name.copy()?,
             space,
@@ -109,10 +111,7 @@ impl Checkpoints {
             state: process.state,
         };
         let told = name.copy()?;
-        match self.by_name.insert(key, kept) {
-            Ok(_) => {}
-            Err(_) => return Err(AllocError),
-        }
+        self.by_name.enter(alloc, name.as_slice(), kept)?;
         Ok(told)
     }
 
@@ -121,6 +120,6 @@ impl Checkpoints {
         ensures removed { result ≡ kept_named name.now self.old }
         ensures others { self.new ≡ kept_but name.now self.old }
     {
-        self.by_name.shift_remove(name)
+        self.by_name.remove(name)
     }
 }

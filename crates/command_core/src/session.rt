@@ -332,7 +332,8 @@ impl Session {
         requires named { IsCheckpointName name.now }
         requires based { IsCheckpointName base.now }
         requires small { length file.now ≤ MOST_FILE_BYTES }
-        ensures gives { GivesChange (import_row name.now base.now file.now (registry_of self.old.state))
+        ensures gives { GivesChange
+            (import_row name.now base.now file.now (registry_of self.old.state))
             self.old.state result self.new.state }
         ensures stands { GivesAs (registered (import_row name.now base.now file.now)) self.old result self.new }
         ensures ample { IsAmplyDone (registered (import_row name.now base.now file.now)) self.old result }
@@ -617,15 +618,18 @@ impl Session {
 
     /// Begins so many turns, at least 1, by round robin.
     pub fn begin_run(&self, turns: u32) -> Running
-        ensures begun { result ≡ begun_run self.now.modes.quantum self.now.modes.calls turns self.now.state }
-        ensures stands { SessionAnswersAs (begun_run self.now.modes.quantum self.now.modes.calls turns) self.now result }
+        ensures begun { result
+            ≡ begun_run self.now.modes.quantum self.now.modes.calls turns self.now.state }
+        ensures stands { SessionAnswersAs
+            (begun_run self.now.modes.quantum self.now.modes.calls turns) self.now result }
     {
         self.begin(Order::ByTurns(RoundRobin::new(self.modes.quantum)), turns)
     }
 
     /// Begins so many turns, at least 1, of one process. Refused where there is none, or where it has ended.
     pub fn begin_step(&self, p: u16, turns: u32) -> Result<Running, Code>
-        ensures begun { BeginsStep self.now.state.breakpoints self.now.state.wholes self.now.modes.calls p turns result }
+        ensures begun { BeginsStep self.now.state.breakpoints self.now.state.wholes
+            self.now.modes.calls p turns result }
         ensures stands { SessionAnswersAs (begun_step self.now.modes.calls p turns) self.now result }
     {
         match self.machine.process(p) {

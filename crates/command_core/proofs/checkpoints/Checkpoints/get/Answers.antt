@@ -5,5 +5,5 @@ use Rattle.command_core.proofs.checkpoints.Checkpoints.get.Goals as goal
 
 pub returns : goal.returns
 returns c =
-    c.get.ensures.value ∙ found_under (λ key. key.items) c.args.name.now c.self.inside.by_name.entries c.self.invariant
+    c.get.ensures ∙ found_under (λ name. name) c.args.name.now c.self.inside.by_name c.self.invariant
     ∙ ap (kept_named c.args.name.now) c.self.view_is
