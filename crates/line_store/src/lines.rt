@@ -1,7 +1,7 @@
 //! Room for lines in one piece of raw memory. The first lines are made, and nothing has touched the room behind them.
 //!
 //! Only functions of this module use a raw pointer, and each of those is proved by hand.
-ghost use Rattle.std.specs.Prelude.{◌≡◌, ◌-◌, ◌<◌, ◌≤◌, ℕ, List, [], ◌∷◌, ◌++◌, length, replicate, IfOk};
+ghost use Rattle.std.specs.Prelude.{◌≡◌, ◌+◌, ◌-◌, ◌<◌, ◌≤◌, ℕ, List, [], ◌∷◌, ◌++◌, length, replicate, IfOk};
 ghost use Rattle.std.specs.Borrow.{sem};
 ghost use denote.RawPtr.{Ptr};
 ghost use Rattle.sizes.specs.declared.TheConstants.{MOST_REGION_LINES};
@@ -109,6 +109,26 @@ impl Lines {
         self.made += 1;
     }
 
+    /// Makes four more lines, for which there has to be room. What is made is written down once.
+    pub(crate) fn push_four(&mut self, a: [u8; 64], b: [u8; 64], c: [u8; 64], d: [u8; 64])
+        requires room { length self.old.items + 4 ≤ self.old.room }
+        ensures items { self.new.items ≡ self.old.items ++ a ∷ b ∷ c ∷ d ∷ [] }
+        ensures piece { (self.new.at ≡ self.old.at) × (self.new.room ≡ self.old.room) }
+    {
+        let at = self.at;
+        let first = self.made;
+        let second = first + 1;
+        let third = second + 1;
+        let fourth = third + 1;
+        unsafe {
+            at.add(first).write(a);
+            at.add(second).write(b);
+            at.add(third).write(c);
+            at.add(fourth).write(d);
+        }
+        self.made = fourth + 1;
+    }
+
     /// Makes lines until there are `wanted`, for which there has to be room. They are zero.
     pub(crate) fn grow(&mut self, wanted: usize)
         requires room { wanted ≤ self.old.room }
@@ -116,7 +136,11 @@ impl Lines {
         ensures piece { (self.new.at ≡ self.old.at) × (self.new.room ≡ self.old.room) }
     {
         'making: while self.as_slice().len() < wanted {
-            self.push([0; 64]);
+            if wanted - self.as_slice().len() < 4 {
+                self.push([0; 64]);
+            } else {
+                self.push_four([0; 64], [0; 64], [0; 64], [0; 64]);
+            }
         }
     }
 }
