@@ -1,8 +1,8 @@
-use Rattle.std.proofs.Common.{◌≡◌, ℕ, ◌+◌, ◌*◌, ◌/◌, ◌%◌, ◌<◌, ◌≤◌, Some, None, List, [], ◌∷◌, ◌++◌, length, drop, refl, sym, ap, ◌∙◌, inl, inr, ◌⊎◌, ◌-◌, arith, append_assoc, length-append}
+use Rattle.std.proofs.Common.{◌≡◌, ℕ, ◌+◌, ◌*◌, ◌/◌, ◌%◌, ◌<◌, ◌≤◌, Some, None, List, [], ◌∷◌, ◌++◌, length, drop, get_or, set, take, max, refl, subst, sym, ap, ◌∙◌, inl, inr, ◌⊎◌, ◌-◌, arith, append_assoc, length-append}
 use Rattle.std.specs.Prelude.{codes}
 use Rattle.std.specs.List.{AllByRecursion}
 use Rattle.std.proofs.lemmas.Bool.{cases_lt}
-use Rattle.std.proofs.lemmas.List.{flat_map_more}
+use Rattle.std.proofs.lemmas.List.{append-nil, drop_all, drop_more, flat_map_more, length-set, take-append-drop, take_all, take_more_set}
 use Rattle.image_lines.specs.Digits.{byte_digits, bytes_digits, digit}
 use Rattle.image_lines.specs.DigitLaws.{digit_at, digit_ends, digit_high, digit_low}
 use Rattle.image_lines.specs.Lines.{IsByte, IsPiece, image_line}
@@ -95,6 +95,58 @@ byte_more old new text rest after b have lt next = record {
   so_far = have.so_far ∙ ap (λ (t : List ℕ). bytes_digits have.piece ++ t) next ∙ sym (append_assoc (bytes_digits have.piece) (byte_digits b) after)
       ∙ ap (λ (t : List ℕ). t ++ after) (flat_map_more byte_digits [] have.piece b);
 }
+
+-- the bytes that the first digits of a text say, behind those that were read before
+pub bytes_behind : (old new bytes text digits rest : List ℕ) (n : ℕ) → HaveBytes [] bytes digits [] → new ≡ old ++ bytes → digits ≡ take n text → rest ≡ drop n text
+    → HaveBytes old new text rest
+bytes_behind old new bytes text digits rest n have added front behind = record {
+  piece = have.piece;
+  each = have.each;
+  added = added ∙ ap (λ (t : List ℕ). old ++ t) have.added;
+  so_far = sym (take-append-drop n text) ∙ ap (λ (t : List ℕ). t ++ drop n text) (sym front ∙ have.so_far ∙ append-nil (bytes_digits have.piece))
+      ∙ ap (λ (t : List ℕ). bytes_digits have.piece ++ t) (sym behind);
+}
+
+-- The pairs of an array, in places.
+
+two_more : (digits : List ℕ) (k : ℕ) → 2 * k + 1 < length digits
+    → drop (2 * k) digits ≡ get_or digits (2 * k) 0 ∷ get_or digits (2 * k + 1) 0 ∷ drop (2 * (k + 1)) digits
+two_more digits k lt =
+    let next : (2 * k + 1) + 1 ≡ 2 * (k + 1) = omega arith in
+    drop_more digits (2 * k) 0 (omega (arith, lt))
+    ∙ ap (λ (t : List ℕ). get_or digits (2 * k) 0 ∷ t) (drop_more digits (2 * k + 1) 0 lt ∙ ap (λ n. get_or digits (2 * k + 1) 0 ∷ drop n digits) next)
+
+-- the bytes of the first pairs, where each character among them is a digit
+pub record ArePairs (digits bytes : List ℕ) (most k : ℕ) : Type 0 where
+  pub full : length bytes ≡ 64
+  pub read : most < 16 → HaveBytes [] (take k bytes) digits (drop (2 * k) digits)
+
+pub no_pairs : (digits bytes : List ℕ) → length bytes ≡ 64 → ArePairs digits bytes 0 0
+no_pairs digits bytes full = record { full = full; read = λ _. record { piece = []; each = tt; added = refl; so_far = refl } }
+
+-- a pair more
+pub pair_more : (digits bytes : List ℕ) (most k a b first second : ℕ) → length digits ≡ 128 → k < 64 → ArePairs digits bytes most k
+    → (a < 16 → IsDigit (get_or digits (2 * k) 0) (Some a)) → (b < 16 → IsDigit (get_or digits (2 * k + 1) 0) (Some b))
+    → first ≡ max most a → second ≡ max first b
+    → ArePairs digits (set bytes k ((a * 16 % 256 + b) % 256)) second (k + 1)
+pair_more digits bytes most k a b first second all less are high low is then = record {
+  full = length-set bytes k ((a * 16 % 256 + b) % 256) ∙ are.full;
+  read = λ few.
+      let upper = high (omega (arith, is, then, few)) in
+      let lower = low (omega (arith, is, then, few)) in
+      let byte = byte_is (get_or digits (2 * k) 0) (get_or digits (2 * k + 1) 0) a b upper lower in
+      let same : (a * 16 % 256 + b) % 256 ≡ 16 * a + b = omega (arith, upper.0, lower.0) in
+      let after = drop (2 * (k + 1)) digits in
+      subst (λ t. HaveBytes [] t digits after)
+      (sym (ap (λ n. take (k + 1) (set bytes k n)) same ∙ take_more_set bytes k (16 * a + b) (omega (arith, less, are.full))))
+      (byte_more [] (take k bytes) digits (drop (2 * k) digits) after (16 * a + b) (are.read (omega (arith, is, then, few))) byte.0
+      (two_more digits k (omega (arith, less, all)) ∙ ap (λ (t : List ℕ). t ++ after) (sym byte.1)));
+}
+
+pub pairs_end : (digits bytes : List ℕ) (most k : ℕ) → length digits ≡ 128 → 64 ≤ k → most < 16 → ArePairs digits bytes most k → HaveBytes [] bytes digits []
+pairs_end digits bytes most k all end few are =
+    subst (λ t. HaveBytes [] t digits []) (take_all k bytes (omega (arith, are.full, end)))
+    (subst (λ t. HaveBytes [] (take k bytes) digits t) (drop_all (2 * k) digits (omega (arith, all, end))) (are.read few))
 
 -- A line.
 
