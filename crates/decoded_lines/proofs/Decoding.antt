@@ -101,11 +101,6 @@ none_entered has i means encodable = record {
 pub word_at : (line : List ℕ) (place : ℕ) → little_number 4 (take (4 * place + 4 - 4 * place) (drop (4 * place) line)) ≡ line_word line place
 word_at line place = let four : 4 * place + 4 - 4 * place ≡ 4 = omega arith in ap (λ n. little_number 4 (take n (drop (4 * place) line))) four
 
--- so many lines, all zero
-pub record AreZero (lines : List (List ℕ)) : Type 0 where
-  pub few : length lines ≤ KEPT_LINES
-  pub zero : lines ≡ replicate (length lines) (replicate {A = ℕ} 64 0)
-
 -- the words of a line stand one after the other
 pub words_behind : (has : Name → Bool) (lines : List (List ℕ)) (instructions : List (Option Instr)) (word : ℕ) → AreDecoded has lines instructions
     → AreFromBy has (take (word % (LINE_WORDS * KEPT_LINES) + (LINE_WORDS - word % LINE_WORDS) - word % (LINE_WORDS * KEPT_LINES))

@@ -11,7 +11,7 @@ mod lines;
 pub use lines::DecodedLines;
 
 /// How many lines are kept.
-pub const KEPT_LINES: usize = 256;
+pub const KEPT_LINES: usize = 1024;
 
 /// How many words of four bytes a line has.
 pub const LINE_WORDS: usize = 16;

@@ -10,7 +10,7 @@ use rv_decode::{Decoder, Instr, Rv64i};
 use std::alloc::{AllocError, Global};
 use std::marker::{Model, PhantomData};
 
-/// Lines of 64 bytes in 256 slots, each with what its 16 words mean by a table.
+/// Lines of 64 bytes in 1,024 slots, each with what its 16 words mean by a table.
 #[derive(Drop)]
 pub struct DecodedLines<D: Decoder = Rv64i> {
     lines: Vec<[u8; 64]>,
@@ -63,22 +63,29 @@ fn decode_line<D: Decoder>(instructions: &mut Vec<Option<Instr>>, slot: usize, l
     }
 }
 
-/// As many lines as are kept, all zero.
-fn zero_lines(alloc: Global) -> Result<Vec<[u8; 64]>, AllocError>
-    ensures { IfOk result (λ lines. lines.items ≡ replicate KEPT_LINES (replicate 64 0)) }
+/// So many lines that are the same.
+fn lines_alike(alloc: Global, line: [u8; 64], count: usize) -> Result<Vec<[u8; 64]>, AllocError>
+    ensures { IfOk result (λ lines. lines.items ≡ replicate count line) }
 {
-    let mut lines = Vec::new(alloc);
-    'zeroing: while lines.len() < KEPT_LINES {
-        lines.push([0; 64])?;
-    }
-    Ok(lines)
+    vec![in alloc; line; count]
+}
+
+/// So many words that mean the same.
+fn words_alike(
+    alloc: Global,
+    word: Option<Instr>,
+    count: usize,
+) -> Result<Vec<Option<Instr>>, AllocError>
+    ensures { IfOk result (λ words. words.items ≡ replicate count word) }
+{
+    vec![in alloc; word; count]
 }
 
 impl<D: Decoder> DecodedLines<D> {
     /// Some lines, of which no clause says which. Takes all the memory that lines ever need, or answers the want of it.
     pub fn new(alloc: Global) -> Result<DecodedLines<D>, AllocError> {
-        let lines = zero_lines(alloc)?;
-        let instructions = vec![in alloc; D::decode(0); LINE_WORDS * KEPT_LINES]?;
+        let lines = lines_alike(alloc, [0; 64], KEPT_LINES)?;
+        let instructions = words_alike(alloc, D::decode(0), LINE_WORDS * KEPT_LINES)?;
         Ok(DecodedLines {
             lines,
             instructions,
