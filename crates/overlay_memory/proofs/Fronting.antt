@@ -104,7 +104,7 @@ put_seen old new seen p result are here beside = record {
 
 -- What was found of a page.
 
-page_there : (view : MemoryView) (s p : ℕ) (found : FoundPage) → (at : IsFoundPageAt view s p found) → page_in (state_of view) s p ≡ Some (page_state view.store at.is.x)
+pub page_there : (view : MemoryView) (s p : ℕ) (found : FoundPage) → (at : IsFoundPageAt view s p found) → page_in (state_of view) s p ≡ Some (page_state view.store at.is.x)
 page_there view s p found at =
     sym (ap (λ n. page_in (state_of view) n p) at.space_is) ∙ sym (ap (page_in (state_of view) found.space) at.page_is)
     ∙ state_page_there view found.space found.page at.is.x at.is.there
@@ -230,6 +230,22 @@ module _ (view : MemoryView) (s address : ℕ) (page : FoundPage) (at : IsFoundP
     there = page_there view s (address / PAGE_BYTES) page at;
     lacks = ap (λ (k : Perms). permits k.0 need) at.is.perms ∙ mayn;
   }
+
+-- A page at the front of its list may be known.
+pub found_fronts : (view : MemoryView) (t : BareTranslations) (fronts : Fronts) (found : FoundPage) (p : ℕ) → AreFronts view t fronts → IsFront found.space found.page t
+    → IsFoundPage view.table found → found.page ≡ p → AreFronts view t (with_head p (Some found) fronts)
+found_fronts view t fronts found p are front is p_is = record {
+  count = length-set fronts.heads (p % SETS) (Some found) ∙ are.count;
+  heads = λ set other at. by_key set (p % SETS)
+      (λ same.
+      let one : found ≡ other = some_is found other
+      (sym (get_or-set_same fronts.heads (p % SETS) (Some found) None (omega (arith, are.count))) ∙ ap (λ n. get_or (slice_set fronts.heads (p % SETS) (Some found)) n None) (sym same) ∙ at) in
+      subst (λ (f : FoundPage). (f.page % SETS ≡ set) × IsHead view.table t f) one (ap (λ n. n % SETS) p_is ∙ sym same, record { is = is; front = front }))
+      (λ apart. are.heads set other (sym (get_or-set_other fronts.heads (p % SETS) set (Some found) None apart) ∙ at));
+  seen = put_seen view.table view.table fronts.seen p (Some found) are.seen
+      (λ other some. subst (λ (f : FoundPage). (f.page ≡ p) × IsFoundPage view.table f) (some_is found other some) (p_is, is)) (λ other apart there. there);
+  tells = λ none. cc;
+}
 
 -- A line of it was brought: it stays at the front of its list.
 pub brought_fronts : (old new : MemoryView) (t : BareTranslations) (fronts : Fronts) (page found : FoundPage) (line p : ℕ) → AreFronts old t fronts → IsFront page.space page.page t

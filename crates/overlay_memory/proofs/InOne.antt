@@ -1,7 +1,7 @@
 use Rattle.std.proofs.Common.{◌≡◌, ℕ, ◌+◌, ◌*◌, ◌/◌, ◌%◌, ◌<◌, ◌≤◌, true, false, List, [], ◌∷◌, length, Option, Some, None, refl, sym, ap, subst, ◌∙◌, arith}
 use Rattle.std.specs.Prelude.{Err, IsSome, is_some}
 use Rattle.sizes.specs.declared.TheConstants.{LINE_BYTES, PAGE_BYTES, PAGE_LINES}
-use Rattle.ovl_io.specs.Permissions.{permits, writable}
+use Rattle.ovl_io.specs.Permissions.{writable}
 use Rattle.overlay_bits.specs.Lines.{has_line}
 use Rattle.ledger.specs.Alike.{AreAlike}
 use Rattle.ledger.specs.AlikeLaws.{alike_itself}
@@ -22,9 +22,10 @@ use Rattle.overlay_memory.specs.Access.{FitsStored, IsAllowed, IsStored, Stores,
 use Rattle.overlay_memory.specs.Pieces.{AreWritable, ComesToBeLarge, IsFilled, IsPermitted, Settles, lines_under}
 use Rattle.overlay_memory.specs.Room.{IsShort}
 use Rattle.overlay_memory.specs.View.{AreOverlaysSmall, NoneAwaits}
+use Rattle.overlay_memory.specs.FoundLaws.{found_some}
 use Rattle.overlay_memory.specs.StateMemory.{still_there}
 use Rattle.overlay_memory.proofs.Bringing.{HasBrought, brought_none, brought_one, brought_writable, joined_books, joins_nothing}
-use Rattle.overlay_memory.proofs.Fronting.{at_address, may_be_used, of_address, own_there}
+use Rattle.overlay_memory.proofs.Fronting.{at_address, of_address, own_there}
 use Rattle.overlay_memory.proofs.Joining.{has_under}
 use Rattle.overlay_memory.proofs.Pieced.{permitted}
 use Rattle.overlay_memory.proofs.Settled.{IsPlacedAnew, first_room, first_row, first_settled, has_settled, joined_few, joined_small, row, row_units, settled_none, settled_row, settles_later, settles_none}
@@ -44,11 +45,12 @@ row_of_one v s address n some fits =
     (touched_one address n (address / 4096) (address % 4096) some (omega arith) fits)
 
 -- bytes of a line that can be written where it stands
-pub stored_in_line : (view : MemoryView) (c : State) (s address : ℕ) (bytes : List ℕ) → AreOverlaysSmall (state_of view) → IsPermitted view s writable address → 0 < length bytes
-    → address % LINE_BYTES + length bytes ≤ LINE_BYTES → is_writable (state_of view) s (address / PAGE_BYTES) (address / LINE_BYTES % PAGE_LINES) ≡ true
+pub put_in_place : (view : MemoryView) (c : State) (s address : ℕ) (bytes : List ℕ) (page : PageState) → page_in (state_of view) s (address / PAGE_BYTES) ≡ Some page → IsJoined view
+    → AreOverlaysSmall (state_of view) → 0 < length bytes → address % LINE_BYTES + length bytes ≤ LINE_BYTES
+    → is_writable (state_of view) s (address / PAGE_BYTES) (address / LINE_BYTES % PAGE_LINES) ≡ true
     → IsFilled (state_of view) c s (PAGE_BYTES * (address / PAGE_BYTES) + (LINE_BYTES * (address / LINE_BYTES % PAGE_LINES) + address % LINE_BYTES)) bytes
-    → IsDone view c s address bytes
-stored_in_line view c s address bytes small may some fits can filled =
+    → IsStored (state_of view) c s address bytes
+put_in_place view c s address bytes page there joined small some fits can filled =
     let v = state_of view in
     let p = address / 4096 in
     let line = address / 64 % 64 in
@@ -58,11 +60,19 @@ stored_in_line view c s address bytes small may some fits can filled =
     row_of_one v s address n some (omega (arith, fits))
     ∙ ap (λ l. ledger_after (Store (space_in v s).speculating s ((p, l) ∷ [])) (books v))
     (one_under (address % 4096) n line some (omega arith) (omega (arith, fits)))
-    ∙ joins_nothing v s p line may.page may.there (own_set view s p may.page may.joined may.there) small can in
-    let put : IsFilled v c s address bytes = subst (λ a. IsFilled v c s a bytes) place filled in (
-      permitted view s writable address n may (omega (arith, fits)),
-      stored_by v v c c s address bytes (books v) (books v) some row (brought_none v s) put (settled_none c s p) (subst (AreAlike (books c)) put.ledger (alike_itself (books c))),
-    )
+    ∙ joins_nothing v s p line page there (own_set view s p page joined there) small can in
+    let put : IsFilled v c s address bytes = subst (λ a. IsFilled v c s a bytes) place filled in
+    stored_by v v c c s address bytes (books v) (books v) some row (brought_none v s) put (settled_none c s p) (subst (AreAlike (books c)) put.ledger (alike_itself (books c)))
+
+-- the same of a page that may be written
+pub stored_in_line : (view : MemoryView) (c : State) (s address : ℕ) (bytes : List ℕ) → AreOverlaysSmall (state_of view) → IsPermitted view s writable address → 0 < length bytes
+    → address % LINE_BYTES + length bytes ≤ LINE_BYTES → is_writable (state_of view) s (address / PAGE_BYTES) (address / LINE_BYTES % PAGE_LINES) ≡ true
+    → IsFilled (state_of view) c s (PAGE_BYTES * (address / PAGE_BYTES) + (LINE_BYTES * (address / LINE_BYTES % PAGE_LINES) + address % LINE_BYTES)) bytes
+    → IsDone view c s address bytes
+stored_in_line view c s address bytes small may some fits can filled = (
+  permitted view s writable address (length bytes) may (omega (arith, fits)),
+  put_in_place view c s address bytes may.page may.there may.joined small some fits can filled,
+)
 
 -- bytes in one page that is there, with the lines under them
 pub record IsInOne (v : State) (s address : ℕ) (lines bytes : List ℕ) : Type 0 where
@@ -154,28 +164,27 @@ module _ {v : State} {s address : ℕ} {lines bytes : List ℕ} (it : IsInOne v 
 pub record IsApart (view : MemoryView) (s address line : ℕ) (page : FoundPage) (bytes : List ℕ) : Type 0 where
   pub at : IsFoundPageAt view s (address / PAGE_BYTES) page
   pub line_is : line ≡ address / LINE_BYTES % PAGE_LINES
-  pub may : IsPermitted view s writable address
+  pub joined : IsJoined view
   pub one : IsInOne (state_of view) s address (address / LINE_BYTES % PAGE_LINES ∷ []) bytes
   pub apart : is_writable (state_of view) page.space page.page (address / LINE_BYTES % PAGE_LINES) ≡ false
 
 pub is_apart : {view : MemoryView} {s address line : ℕ} {page : FoundPage} {bytes : List ℕ} → IsFoundPageAt view s (address / PAGE_BYTES) page
-    → line ≡ address / LINE_BYTES % PAGE_LINES → IsJoined view → permits page.perms.0 writable ≡ true
+    → line ≡ address / LINE_BYTES % PAGE_LINES → IsJoined view
     → is_writable (state_of view) page.space page.page (address / LINE_BYTES % PAGE_LINES) ≡ false → 0 < length bytes → address % LINE_BYTES + length bytes ≤ LINE_BYTES
     → IsApart view s address line page bytes
-is_apart {view = view} {s = s} {address = address} {page = page} {bytes = bytes} at line_is joined may apart some fits =
-    let used = may_be_used view s address page at writable joined may in
+is_apart {view = view} {s = s} {address = address} {page = page} {bytes = bytes} at line_is joined apart some fits =
     record {
       at = at;
       line_is = line_is;
-      may = used;
-      one = in_one (ap is_some used.there) some (omega (arith, fits))
+      joined = joined;
+      one = in_one (found_some view page s (address / 4096) at) some (omega (arith, fits))
           (sym (one_under (address % 4096) (length bytes) (address / 64 % 64) some (omega arith) (omega (arith, fits))));
       apart = apart;
     }
 
 module _ {view : MemoryView} {s address line : ℕ} {page : FoundPage} {bytes : List ℕ} (it : IsApart view s address line page bytes) where
-  allowed : IsAllowed (state_of view) s writable address (length bytes)
-  allowed = permitted view s writable address (length bytes) it.may it.one.fits
+  pub line_allowed : IsPermitted view s writable address → IsAllowed (state_of view) s writable address (length bytes)
+  line_allowed may = permitted view s writable address (length bytes) may it.one.fits
 
   -- what the units are with a line that is brought
   abbrev AreUnits : ℕ → Type 0
@@ -186,25 +195,17 @@ module _ {view : MemoryView} {s address line : ℕ} {page : FoundPage} {bytes : 
   needs needed are = one_needs it.one needed
       (at_address view s address page it.at (address / 64 % 64) refl (λ q r i. units_of (with_brought (state_of view) q r (i ∷ [])) ≡ needed) (are (address / 64 % 64) (omega arith) it.apart))
 
-  pub line_full : (needed limit : ℕ) (shortage : Shortage) → AreUnits needed → limit ≡ limit_of (state_of view) → IsShort needed limit shortage
+  pub line_full : IsPermitted view s writable address → (needed limit : ℕ) (shortage : Shortage) → AreUnits needed → limit ≡ limit_of (state_of view) → IsShort needed limit shortage
       → Stores view view s address bytes (Err (Full shortage.needed shortage.limit))
-  line_full needed limit shortage are limit_is short =
-      full_store view s address needed bytes shortage allowed (needs needed are) (subst (λ n. IsShort needed n shortage) limit_is short)
+  line_full may needed limit shortage are limit_is short =
+      full_store view s address needed bytes shortage (line_allowed may) (needs needed are) (subst (λ n. IsShort needed n shortage) limit_is short)
 
   -- the same, of the whole store
   pub line_room : (needed limit : ℕ) → AreUnits needed → limit ≡ limit_of (state_of view) → needed ≤ limit → FitsStored (state_of view) s address (length bytes)
   line_room needed limit are limit_is room = let needed_is = needs needed are in omega (arith, needed_is, room, limit_is)
 
-  pub line_here : IsSome (page_in (state_of view) s (address / PAGE_BYTES))
-  line_here = ap is_some it.one.there
-
-  pub line_allowed : IsAllowed (state_of view) s writable address (length bytes)
-  line_allowed = allowed
-
-  pub line_fits : (needed limit : ℕ) → AreUnits needed → limit ≡ limit_of (state_of view) → needed ≤ limit → Fits (with_brought (state_of view) page.space page.page (line ∷ []))
-  line_fits needed limit are limit_is room =
-      of_address view s address page it.at line it.line_is (λ q r i. Fits (with_brought (state_of view) q r (i ∷ [])))
-      (one_fits it.one (let needed_is = needs needed are in omega (arith, needed_is, room, limit_is)))
+  pub line_fits : FitsStored (state_of view) s address (length bytes) → Fits (with_brought (state_of view) page.space page.page (line ∷ []))
+  line_fits room = of_address view s address page it.at line it.line_is (λ q r i. Fits (with_brought (state_of view) q r (i ∷ []))) (one_fits it.one room)
 
   module _ (mid : State) (mid_is : mid ≡ with_brought (state_of view) page.space page.page (line ∷ [])) where
     here : mid ≡ with_brought (state_of view) s (address / PAGE_BYTES) (address / LINE_BYTES % PAGE_LINES ∷ [])
@@ -222,14 +223,8 @@ module _ {view : MemoryView} {s address line : ℕ} {page : FoundPage} {bytes : 
           let place : 4096 * (address / 4096) + (64 * (address / 64 % 64) + address % 64) ≡ 4096 * (address / 4096) + address % 4096 = omega arith in
           subst (λ a. IsFilled mid c s a bytes) place filled
 
-      pub filled_there : IsSome (page_in c s (address / PAGE_BYTES))
-      filled_there = put_there it.one mid c here put_in
-
-      pub filled_awaits : NoneAwaits (state_of view) s → NoneAwaits c s
-      filled_awaits = put_awaits it.one mid c here put_in
-
-      pub line_stored : (after : State) → Settles c after s (address / PAGE_BYTES) → IsDone view after s address bytes
-      line_stored after settles = (allowed, one_stored it.one mid c here put_in after settles)
+      pub line_stored : (after : State) → Settles c after s (address / PAGE_BYTES) → IsStored (state_of view) after s address bytes
+      line_stored after settles = one_stored it.one mid c here put_in after settles
 
       mark : (space_in c s).speculating ≡ (space_in (state_of view) s).speculating
       mark = filled.beside.mark ∙ ap (λ w. (space_in w s).speculating) here
@@ -256,7 +251,7 @@ module _ {view : MemoryView} {s address line : ℕ} {page : FoundPage} {bytes : 
     own_is = some_is it.one.page.own page.own (sym (ap (option_map (λ (x : PageState). x.own)) it.one.there) ∙ own_there view s p page it.at)
 
     count : (space_in v s).speculating ≡ false → length (with_lines it.one.page.own (i ∷ [])) ≤ 31
-    count off = joined_few it.one.page.own i (own_set view s p it.one.page it.may.joined it.one.there) (omega arith) (let less = few off in omega (arith, ap length own_is, less))
+    count off = joined_few it.one.page.own i (own_set view s p it.one.page it.joined it.one.there) (omega arith) (let less = few off in omega (arith, ap length own_is, less))
 
     pub line_stays : Settles c c s p
     line_stays = by_test (space_in c s).speculating (settles_later c s p) (λ off.

@@ -85,16 +85,24 @@ pub(crate) fn settle(pages: &mut OverlayPages, cache: &mut Cache, page: &FoundPa
     settled
 }
 
-/// A page that was found, and was stored to, is settled where it has to be: the units of its overlay are those of its frame then.
-pub(crate) fn settle_if_large(pages: &mut OverlayPages, cache: &mut Cache, page: &FoundPage)
+/// A page that was found, and was stored to, is settled where it has to be: the units of its overlay are those of its frame then. Answers
+/// it as it is found then.
+pub(crate) fn settle_if_large(
+    pages: &mut OverlayPages,
+    cache: &mut Cache,
+    page: &FoundPage,
+) -> FoundPage
     requires found { IsFoundPage pages.old.table page.now }
     requires none_awaits { NoneAwaits (state_of pages.old) page.now.space }
     requires held { AreTrue (state_of pages.old) cache.old }
     ensures settles { Settles (state_of pages.old) (state_of pages.new) page.now.space page.now.page }
+    ensures found { IsFoundPageAt pages.new page.now.space page.now.page result }
     ensures held { AreTrue (state_of pages.new) cache.new }
     ensures lists { bare cache.new ≡ bare cache.old }
 {
     if is_to_settle(pages, page) {
-        settle(pages, cache, page);
+        settle(pages, cache, page)
+    } else {
+        *page
     }
 }

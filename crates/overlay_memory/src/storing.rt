@@ -1,17 +1,18 @@
 //! Bytes into the lines of pages, and what a store needs first.
 
-ghost use Rattle.std.specs.Prelude.{◌≡◌, ◌+◌, ◌-◌, ◌*◌, ◌/◌, ◌%◌, ◌<◌, ◌≤◌, IsSome, OnErr, length, true, false};
+ghost use Rattle.std.specs.Prelude.{◌≡◌, ◌+◌, ◌-◌, ◌*◌, ◌/◌, ◌%◌, ◌<◌, ◌≤◌, IfSome, IsSome, OnErr, length, true, false};
 ghost use Rattle.sizes.specs.declared.TheConstants.{LINE_BYTES, PAGE_BYTES, PAGE_LINES};
 ghost use Rattle.ovl_io.specs.Permissions.{permits, writable};
 ghost use Rattle.overlay_pages.specs.Changes.{is_writable};
 ghost use Rattle.overlay_pages.specs.State.{memory_of};
 ghost use Rattle.overlay_pages.specs.View.{IsJoined, state_of};
-ghost use Rattle.overlay_pages.specs.Spots.{IsFound, IsFoundPage, IsFoundPageAt};
+ghost use Rattle.overlay_pages.specs.Spots.{IsBroughtTo, IsFound, IsFoundPage, IsFoundPageAt};
 ghost use Rattle.overlay_memory.specs.Access.{FitsStored, IsStored, Stores, line_address};
 ghost use Rattle.overlay_memory.specs.Fronts.{AreFronts};
 ghost use Rattle.overlay_memory.specs.Pieces.{AreWritable, IsFilled, Permits, lines_under, result_at};
 ghost use Rattle.overlay_memory.specs.View.{AreOverlaysSmall, AreTrue, NoneAwaits};
-ghost use Rattle.space_maps.specs.Spaces.{page_in};
+ghost use Rattle.overlay_pages.specs.declared.settling.TheConstants.{MOST_OWN};
+ghost use Rattle.space_maps.specs.Spaces.{page_in, space_in};
 ghost use Rattle.translation_cache.specs.Bare.{bare};
 ghost use Rattle.translation_cache.specs.Counted.{translated};
 ghost use Rattle.translation_cache.specs.CountedLaws.{IsFront};
@@ -114,7 +115,7 @@ fn fill_page(pages: &mut OverlayPages, page: &FoundPage, at: usize, bytes: &[u8]
 
 /// Puts bytes, some and all in one page that was found, whatever its permissions: first the lines in which they lie are made such as can
 /// be written where they stand, then the bytes are put, and then the page is settled where it has to be. A page that has own lines is
-/// settled before that, so that they aren't moved twice. The units after it are there.
+/// settled before that, so that they aren't moved twice. The units after it are there. Answers the page as it is found then.
 fn put_in_found(
     pages: &mut OverlayPages,
     cache: &mut Cache,
@@ -123,7 +124,7 @@ fn put_in_found(
     address: u64,
     lines: Bits,
     bytes: &[u8],
-)
+) -> FoundPage
     requires found { IsFoundPageAt pages.old space (address / PAGE_BYTES) page.now }
     requires some { 0 < length bytes.now }
     requires one_page { address % PAGE_BYTES + length bytes.now ≤ PAGE_BYTES }
@@ -132,6 +133,7 @@ fn put_in_found(
     requires none_awaits { NoneAwaits (state_of pages.old) space }
     requires held { AreTrue (state_of pages.old) cache.old }
     ensures stored { IsStored (state_of pages.old) (state_of pages.new) space address bytes.now }
+    ensures found { IsFoundPageAt pages.new space (address / PAGE_BYTES) result }
     ensures held { AreTrue (state_of pages.new) cache.new }
     ensures lists { bare cache.new ≡ bare cache.old }
 {
@@ -139,14 +141,14 @@ fn put_in_found(
     if comes_to_be_large(pages, page, lines) {
         let settled = settle(pages, cache, page);
         fill_page(pages, &settled, at, bytes);
-        return;
+        return settled;
     }
     let number = address / PAGE_BYTES as u64;
     bring_lines(pages, cache, space, number, lines);
     match pages.find_page(space, number) {
         Some(brought) => {
             fill_page(pages, &brought, at, bytes);
-            settle_if_large(pages, cache, &brought);
+            settle_if_large(pages, cache, &brought)
         }
         None => unreachable!(),
     }
@@ -173,9 +175,92 @@ fn put_in_page(
     ensures lists { bare cache.new ≡ bare cache.old }
 {
     match pages.find_page(space, address / PAGE_BYTES as u64) {
-        Some(page) => put_in_found(pages, cache, space, &page, address, lines, bytes),
+        Some(page) => {
+            put_in_found(pages, cache, space, &page, address, lines, bytes);
+        }
         None => unreachable!(),
     }
+}
+
+/// Puts bytes, some and all in one line, of a page that was found, where the line can't be written where it stands and the page stays
+/// overlaid: the line is brought, and then the bytes are put. The units after it are there. Answers the page as it is found then, unless
+/// the overlay grew: no page is looked up but then.
+#[inline(always)]
+fn put_brought(
+    pages: &mut OverlayPages,
+    cache: &mut Cache,
+    space: u16,
+    page: FoundPage,
+    address: u64,
+    bytes: &[u8],
+) -> Option<FoundPage>
+    requires found { IsFoundPageAt pages.old space (address / PAGE_BYTES) page }
+    requires apart { is_writable (state_of pages.old) page.space page.page
+        (address / LINE_BYTES % PAGE_LINES) ≡ false }
+    requires stays { (space_in (state_of pages.old) space).speculating ≡ false
+        → length page.own < MOST_OWN }
+    requires some { 0 < length bytes.now }
+    requires one_line { address % LINE_BYTES + length bytes.now ≤ LINE_BYTES }
+    requires fits { FitsStored (state_of pages.old) space address (length bytes.now) }
+    requires joined { IsJoined pages.old }
+    requires held { AreTrue (state_of pages.old) cache.old }
+    ensures stored { IsStored (state_of pages.old) (state_of pages.new) space address bytes.now }
+    ensures found { IfSome result (IsBroughtTo pages.old.table pages.new.table page
+        (address / LINE_BYTES % PAGE_LINES)) }
+    ensures held { AreTrue (state_of pages.new) cache.new }
+    ensures lists { bare cache.new ≡ bare cache.old }
+{
+    let line = line_of(address);
+    let at = (address % LINE_BYTES as u64) as usize;
+    match &bring_line(pages, cache, page, line) {
+        Some(found) => {
+            put(pages, found.line(line), at, bytes);
+            Some(*found)
+        }
+        None => {
+            fill_line(pages, space, address / PAGE_BYTES as u64, line, at, bytes);
+            None
+        }
+    }
+}
+
+/// As `put_in_found`, of bytes in one line: where that can be written where it stands, or is brought alone, no page is looked up.
+fn put_in_line(
+    pages: &mut OverlayPages,
+    cache: &mut Cache,
+    space: u16,
+    page: &FoundPage,
+    address: u64,
+    bytes: &[u8],
+)
+    requires found { IsFoundPageAt pages.old space (address / PAGE_BYTES) page.now }
+    requires some { 0 < length bytes.now }
+    requires one_line { address % LINE_BYTES + length bytes.now ≤ LINE_BYTES }
+    requires fits { FitsStored (state_of pages.old) space address (length bytes.now) }
+    requires none_awaits { NoneAwaits (state_of pages.old) space }
+    requires joined { IsJoined pages.old }
+    requires small { AreOverlaysSmall (state_of pages.old) }
+    requires held { AreTrue (state_of pages.old) cache.old }
+    ensures stored { IsStored (state_of pages.old) (state_of pages.new) space address bytes.now }
+    ensures held { AreTrue (state_of pages.new) cache.new }
+    ensures lists { bare cache.new ≡ bare cache.old }
+{
+    let line = line_of(address);
+    if page.is_writable(line) {
+        put(
+            pages,
+            page.line(line),
+            (address % LINE_BYTES as u64) as usize,
+            bytes,
+        );
+        return;
+    }
+    if stays_overlay(pages, space, page.own) {
+        put_brought(pages, cache, space, *page, address, bytes);
+        return;
+    }
+    let lines = lines_at((address % PAGE_BYTES as u64) as usize, bytes.len());
+    put_in_found(pages, cache, space, page, address, lines, bytes);
 }
 
 /// A line of a page that is there becomes these bytes, as by a store of them, whatever the permissions. The units after it are there.
@@ -191,23 +276,20 @@ pub(crate) fn put_line(
     requires line { line < PAGE_LINES }
     requires fits { FitsStored (state_of pages.old) space (line_address page line) LINE_BYTES }
     requires none_awaits { NoneAwaits (state_of pages.old) space }
+    requires small { AreOverlaysSmall (state_of pages.old) }
     requires held { AreTrue (state_of pages.old) cache.old }
     ensures stored { IsStored (state_of pages.old) (state_of pages.new) space
         (line_address page line) bytes.now }
     ensures held { AreTrue (state_of pages.new) cache.new }
     ensures lists { bare cache.new ≡ bare cache.old }
 {
-    let _own = pages.lines_of(space, page);
-    let at = LINE_BYTES * usize::from(line);
-    let address = PAGE_BYTES as u64 * page + at as u64;
-    put_in_page(
-        pages,
-        cache,
-        space,
-        address,
-        lines_at(at, LINE_BYTES),
-        bytes,
-    );
+    match pages.find_page(space, page) {
+        Some(found) => {
+            let address = PAGE_BYTES as u64 * page + LINE_BYTES as u64 * u64::from(line);
+            put_in_line(pages, cache, space, &found, address, bytes);
+        }
+        None => unreachable!(),
+    }
 }
 
 /// Stores bytes, some and all in one page: permission first, then units, then the bytes with their lines.
@@ -340,27 +422,20 @@ fn store_brought(
     ensures lists { bare cache.new ≡ bare cache.old }
     ensures fronts { AreFronts pages.new (bare cache.new) fronts.new }
 {
-    let line = line_of(address);
     if let Some(shortage) = shortage_of(pages.units_with(&page), pages.limit()) {
         return Came::Full(shortage.needed, shortage.limit);
     }
+    let number = address / PAGE_BYTES as u64;
     if !stays_overlay(pages, space, page.own) {
         fronts.clear();
         let lines = lines_at((address % PAGE_BYTES as u64) as usize, bytes.len());
-        put_in_found(pages, cache, space, &page, address, lines, bytes);
+        let settled = put_in_found(pages, cache, space, &page, address, lines, bytes);
+        fronts.put(number, Some(settled));
         return Came::Done;
     }
-    let number = address / PAGE_BYTES as u64;
-    let at = (address % LINE_BYTES as u64) as usize;
-    match &bring_line(pages, cache, page, line) {
-        Some(found) => {
-            fronts.put(number, Some(*found));
-            put(pages, found.line(line), at, bytes);
-        }
-        None => {
-            fronts.clear();
-            fill_line(pages, space, number, line, at, bytes);
-        }
+    match put_brought(pages, cache, space, page, address, bytes) {
+        Some(found) => fronts.put(number, Some(found)),
+        None => fronts.clear(),
     }
     Came::Done
 }
