@@ -1,3 +1,4 @@
 pub mod Places
 pub mod Blocks
 pub mod Chains
+pub mod Words

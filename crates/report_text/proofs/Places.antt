@@ -1,4 +1,4 @@
-use Rattle.std.proofs.lemmas.List.{drop-set, drop_all, flat_map_more, length-drop, length-set, take_all, take_more, take_more_set}
+use Rattle.std.proofs.lemmas.List.{drop_all, flat_map_more, length-set, take_more, take_more_set}
 use Rattle.std.proofs.Common.{◌≡◌, ℕ, length, flat_map, take, drop, slice_index, slice_set, zero, suc, ◌+◌, ◌-◌, ◌*◌, ◌/◌, ◌%◌, ◌^◌, ◌<◌, ◌==◌, Bool, false, cond, List, [], ◌∷◌, ◌++◌, map, sym, ap, ◌∙◌, subst, arith, append_assoc, append-nil, ◌≤◌, codes}
 use Rattle.std.proofs.Math.Nat.{pow-succ'}
 use Rattle.std.proofs.lemmas.List.{map-append}
@@ -54,31 +54,6 @@ of_size (negsuc n) small =
 
 pub signed_is : (n : ℤ) → SFits w64 n → signed_decimal (to_z w64 (of_z w64 n)) ≡ signed_text n
 signed_is n fits = ap signed_decimal (to_z-of_z w64 n fits) ∙ of_size n fits.sfits
-
--- One place fewer is left, and its digit stands before those so far; and where none is left they are all.
-pub one_place_more : (n rest places i digit : ℕ) (digits : List ℕ) → i < places → places ≤ 16 → length digits ≡ 16 → digit ≡ hex_digit (rest % 16)
-    → hex_places (places - i) rest ++ drop (16 - i) digits ≡ hex_places places n
-    → hex_places (places - (i + 1)) (rest / 16) ++ drop (16 - (i + 1)) (slice_set digits (15 - i) digit) ≡ hex_places places n
-unfolding hex_places
-one_place_more n rest places i digit digits left few room last so_far =
-    let front = hex_places (places - (i + 1)) (rest / 16) in
-    let behind = drop (16 - i) digits in
-    let one : places - i ≡ suc (places - (i + 1)) = omega (arith, left) in
-    let here : 16 - (i + 1) ≡ 15 - i = omega arith in
-    let next : 15 - i + 1 ≡ 16 - i = omega (arith, left, few) in
-    ap (λ m. front ++ drop m (slice_set digits (15 - i) digit)) here
-    ∙ ap (λ ds. front ++ ds) (drop-set digits (15 - i) digit (omega (arith, room)) ∙ ap (λ m. digit ∷ drop m digits) next ∙ ap (λ d. d ∷ behind) last)
-    ∙ sym (append_assoc front (hex_digit (rest % 16) ∷ []) behind) ∙ ap (λ m. hex_places m rest ++ behind) (sym one) ∙ so_far
-
-pub no_place_left : (n rest places i : ℕ) (digits : List ℕ) → i ≤ places → places ≤ i → places ≤ 16 → length digits ≡ 16
-    → hex_places (places - i) rest ++ drop (16 - i) digits ≡ hex_places places n
-    → take (16 - (16 - places)) (drop (16 - places) digits) ≡ hex_places places n
-unfolding hex_places
-no_place_left n rest places i digits less more few room so_far =
-    let none : places - i ≡ 0 = omega (arith, more) in
-    let all : 16 - places ≡ 16 - i = omega (arith, less, more) in
-    take_all (16 - (16 - places)) (drop (16 - places) digits) (omega (arith, length-drop (16 - places) digits, room))
-    ∙ ap (λ m. drop m digits) all ∙ ap (λ m. hex_places m rest ++ drop (16 - i) digits) (sym none) ∙ so_far
 
 -- A blank and the digits of a byte are put behind those so far.
 dumped : ℕ → List ℕ

@@ -11,7 +11,7 @@ ghost use Rattle.report_text.specs.Answers.{IsCheckpointName, HasCodeLine, answe
 use crate::instructions::push_instruction;
 use crate::names::{kind_text, port_text, push_code, push_pages, push_state, stop_word};
 use crate::push::{
-    push_address, push_bytes, push_decimal, push_dumped, push_hex, push_places, push_text,
+    push_address, push_bytes, push_decimal, push_dumped, push_hex, push_short_word, push_text,
     push_word,
 };
 use crate::{Code, LINE_ROOM, Line, ROW_BYTES, Stop};
@@ -380,7 +380,7 @@ pub(crate) fn put_disasm<D: Decoder>(line: &mut Line, address: u64, word: u32)
 {
     push_word(line, address);
     push_text(line, b" ");
-    push_places(line, u64::from(word), 8);
+    push_short_word(line, word);
     push_text(line, b" ");
     push_instruction::<D>(line, word);
     push_text(line, b"\n");

@@ -10,8 +10,24 @@ use arrayvec::ArrayVec;
 use itoa::Buffer;
 use sizes::LINE_BYTES;
 
-/// The hexadecimal digits of a word of 64 bits.
-const WORD_DIGITS: usize = 16;
+/// The two hexadecimal digits of each byte, from 0 on.
+static DIGITS_OF_BYTES: [u8; 512] = *b"\
+    000102030405060708090a0b0c0d0e0f\
+    101112131415161718191a1b1c1d1e1f\
+    202122232425262728292a2b2c2d2e2f\
+    303132333435363738393a3b3c3d3e3f\
+    404142434445464748494a4b4c4d4e4f\
+    505152535455565758595a5b5c5d5e5f\
+    606162636465666768696a6b6c6d6e6f\
+    707172737475767778797a7b7c7d7e7f\
+    808182838485868788898a8b8c8d8e8f\
+    909192939495969798999a9b9c9d9e9f\
+    a0a1a2a3a4a5a6a7a8a9aaabacadaeaf\
+    b0b1b2b3b4b5b6b7b8b9babbbcbdbebf\
+    c0c1c2c3c4c5c6c7c8c9cacbcccdcecf\
+    d0d1d2d3d4d5d6d7d8d9dadbdcdddedf\
+    e0e1e2e3e4e5e6e7e8e9eaebecedeeef\
+    f0f1f2f3f4f5f6f7f8f9fafbfcfdfeff";
 
 /// A line of the report, with its end; two lines at a breakpoint.
 pub type Line = ArrayVec<u8, LINE_ROOM>;
@@ -24,8 +40,24 @@ pub(crate) fn push_text(line: &mut Line, text: &[u8])
     let _ = line.try_extend_from_slice(text);
 }
 
-/// A number in decimal digits, at most 20.
+/// A number in decimal digits, at most 20. Most numbers of a line have one digit or two, which are put by themselves.
 pub(crate) fn push_decimal(line: &mut Line, n: u64)
+    requires { array_vec_len line.old + 20 ≤ LINE_ROOM }
+    ensures text { line.new.items ≡ line.old.items ++ in_decimal n }
+    ensures len { array_vec_len line.new ≤ array_vec_len line.old + 20 }
+{
+    if n < 10 {
+        line.push(b'0' + n as u8);
+    } else if n < 100 {
+        push_text(line, &[b'0' + (n / 10) as u8, b'0' + (n % 10) as u8]);
+    } else {
+        push_long_decimal(line, n);
+    }
+}
+
+/// The same for a number of any length. It stands apart, so that the short ways take no room for its digits.
+#[inline(never)]
+fn push_long_decimal(line: &mut Line, n: u64)
     requires { array_vec_len line.old + 20 ≤ LINE_ROOM }
     ensures text { line.new.items ≡ line.old.items ++ in_decimal n }
     ensures len { array_vec_len line.new ≤ array_vec_len line.old + 20 }
@@ -79,30 +111,48 @@ pub(crate) fn push_address(line: &mut Line, address: u64)
     }
 }
 
-/// The last so many hexadecimal digits of a number, at most 16, with leading zeros.
-pub(crate) fn push_places(line: &mut Line, n: u64, places: u32)
-    requires few { places ≤ WORD_DIGITS }
-    requires room { array_vec_len line.old + places ≤ LINE_ROOM }
-    ensures text { line.new.items ≡ line.old.items ++ hex_places places n }
-    ensures len { array_vec_len line.new ≡ array_vec_len line.old + places }
+/// The two hexadecimal digits of a byte.
+fn byte_digits(b: u8) -> [u8; 2]
+    ensures { result ≡ hex_places 2 b }
 {
-    let count = places as usize;
-    let mut digits = [0u8; WORD_DIGITS];
-    let mut rest = n;
-    'places: for i in 0..count {
-        digits[WORD_DIGITS - 1 - i] = hex_digit((rest % 16) as u8);
-        rest /= 16;
-    }
-    push_text(line, &digits[WORD_DIGITS - count..]);
+    let at = 2 * usize::from(b);
+    [DIGITS_OF_BYTES[at], DIGITS_OF_BYTES[at + 1]]
 }
 
-/// A word of 64 bits in 16 hexadecimal digits.
+/// A word of 64 bits in 16 hexadecimal digits, those of its bytes from the highest on.
 pub(crate) fn push_word(line: &mut Line, n: u64)
     requires { array_vec_len line.old + 16 ≤ LINE_ROOM }
     ensures text { line.new.items ≡ line.old.items ++ word_text n }
     ensures len { array_vec_len line.new ≤ array_vec_len line.old + 16 }
 {
-    push_places(line, n, WORD_DIGITS as u32);
+    let [a, b, c, d, e, f, g, h] = n.to_be_bytes();
+    let digits = [
+        byte_digits(a),
+        byte_digits(b),
+        byte_digits(c),
+        byte_digits(d),
+        byte_digits(e),
+        byte_digits(f),
+        byte_digits(g),
+        byte_digits(h),
+    ];
+    push_text(line, digits.as_flattened());
+}
+
+/// A word of 32 bits in 8 hexadecimal digits.
+pub(crate) fn push_short_word(line: &mut Line, n: u32)
+    requires { array_vec_len line.old + 8 ≤ LINE_ROOM }
+    ensures text { line.new.items ≡ line.old.items ++ hex_places 8 n }
+    ensures len { array_vec_len line.new ≤ array_vec_len line.old + 8 }
+{
+    let [a, b, c, d] = n.to_be_bytes();
+    let digits = [
+        byte_digits(a),
+        byte_digits(b),
+        byte_digits(c),
+        byte_digits(d),
+    ];
+    push_text(line, digits.as_flattened());
 }
 
 /// Bytes of memory, at most 16, for each a blank and its two hexadecimal digits.

@@ -1,8 +1,10 @@
-use Rattle.std.proofs.Common.{ap, ◌∙◌, ◌++◌}
-use Rattle.report_text.proofs.Places.{decimal_is}
+use Rattle.std.proofs.Common.{sym, ap, ◌∙◌, ◌++◌}
+use Rattle.report_text.proofs.Words.{one_decimal, two_decimals}
 use Rattle.report_text.proofs.push.push_decimal.Goals as goal
 
-pub returns-clause-text : goal.returns-clause-text
-returns-clause-text c =
-    c.push_text.ensures.text
-    ∙ ap (λ ds. c.args.line.now.items ++ ds) (c.as_bytes.ensures.value ∙ c.format.ensures.text ∙ decimal_is c.args.n c.ranges.n.fits)
+pub returns-then-n-lt10-clause-text : goal.returns-then-n-lt10-clause-text
+returns-then-n-lt10-clause-text c = c.push.ensures.items ∙ ap (λ ds. c.args.line.now.items ++ ds) (sym (one_decimal c.args.n c.if-n-lt10.true))
+
+pub returns-then-n-lt100-clause-text : goal.returns-then-n-lt100-clause-text
+returns-then-n-lt100-clause-text c =
+    c.push_text.ensures.text ∙ ap (λ ds. c.args.line.now.items ++ ds) (sym (two_decimals c.args.n c.if-n-lt10.false c.if-n-lt100.true))
