@@ -3,19 +3,14 @@ use Rattle.std.proofs.Common.{◌≡◌, ℕ, length, flat_map, take, drop, slic
 use Rattle.std.proofs.Math.Nat.{pow-succ'}
 use Rattle.std.proofs.lemmas.List.{map-append}
 use Rattle.std.specs.Int.Digits.{digits_of}
-use lib.Signed.{mag}
-use mir.Syntax.{w64}
-use mir.Val.{SFits, to_z, of_z}
-use Rattle.std.specs.Prelude.{ℤ, pos, negsuc}
-use Rattle.std.proofs.lemmas.Int.{to_z-of_z}
-use Rattle.std.specs.Fmt.{decimal, signed_decimal}
+use Rattle.std.specs.Fmt.{decimal}
 use Rattle.std.proofs.lemmas.Fmt.{decimal_digit, decimal-digits_of}
 use Rattle.std.proofs.lemmas.Int.Digits.{digits_of_step}
 use Rattle.std.proofs.lemmas.Bool.Decides.{nat_tests}
 use Rattle.hex.specs.Hex.{encode_lower, encode_with, lower_digits}
 use Rattle.hex.proofs.Pairs.{encode_step, take-two_writes}
 use Rattle.image_lines.specs.DigitLaws.{digit_is}
-use Rattle.report_text.specs.Digits.{hex_digit, hex_places, in_decimal, signed_text}
+use Rattle.report_text.specs.Digits.{hex_digit, hex_places, in_decimal}
 
 -- Numbers by their digits.
 
@@ -44,16 +39,6 @@ decimal_is (suc n) small =
     let some : (suc n == 0) ≡ false = grind (arith, nat_tests) in
     decimal-digits_of (suc n) (omega arith) small
     ∙ sym (ap (λ (t : Bool). cond t (codes "0") (map (λ d. 48 + d) (digits_of 10 (suc n)))) some)
-
--- and with a sign
-of_size : (n : ℤ) → mag n < 2 ^ 63 → signed_decimal n ≡ signed_text n
-of_size (pos n) small = decimal_is n (omega (arith, small))
-of_size (negsuc n) small =
-    let next : suc n ≡ n + 1 = omega arith in
-    ap (λ ds. 45 ∷ ds) (decimal_is (suc n) (omega (arith, small)) ∙ ap in_decimal next)
-
-pub signed_is : (n : ℤ) → SFits w64 n → signed_decimal (to_z w64 (of_z w64 n)) ≡ signed_text n
-signed_is n fits = ap signed_decimal (to_z-of_z w64 n fits) ∙ of_size n fits.sfits
 
 -- A blank and the digits of a byte are put behind those so far.
 dumped : ℕ → List ℕ

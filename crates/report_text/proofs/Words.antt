@@ -97,7 +97,29 @@ short_word_is n bytes a b c d are at_a at_b at_c at_d =
 pub one_decimal : (n : ℕ) → n < 10 → in_decimal n ≡ (48 + n) ∷ []
 one_decimal n small = sym (decimal_is n (omega (arith, small))) ∙ decimal_digit n small
 
+-- The digits of a number are those of its tenth, and the last.
+one_decimal_more : (n : ℕ) → 10 ≤ n → n < 2 ^ 64 → in_decimal n ≡ in_decimal (n / 10) ++ (48 + n % 10) ∷ []
+one_decimal_more n many small =
+    sym (decimal_is n small) ∙ decimal_step n many small ∙ ap (λ ds. ds ++ (48 + n % 10) ∷ []) (decimal_is (n / 10) (omega (arith, small)))
+
 pub two_decimals : (n : ℕ) → 10 ≤ n → n < 100 → in_decimal n ≡ (48 + n / 10) ∷ (48 + n % 10) ∷ []
 two_decimals n many small =
     sym (decimal_is n (omega (arith, small))) ∙ decimal_step n many (omega (arith, small))
     ∙ ap (λ ds. ds ++ (48 + n % 10) ∷ []) (decimal_digit (n / 10) (omega (arith, small)))
+
+pub three_decimals : (n : ℕ) → 100 ≤ n → n < 1000 → in_decimal n ≡ (48 + n / 100) ∷ (48 + n / 10 % 10) ∷ (48 + n % 10) ∷ []
+three_decimals n many small =
+    let high : n / 10 / 10 ≡ n / 100 = omega arith in
+    one_decimal_more n (omega (arith, many)) (omega (arith, small))
+    ∙ ap (λ ds. ds ++ (48 + n % 10) ∷ []) (two_decimals (n / 10) (omega (arith, many)) (omega (arith, small)))
+    ∙ ap (λ m. (48 + m) ∷ (48 + n / 10 % 10) ∷ (48 + n % 10) ∷ []) high
+
+pub four_decimals : (n : ℕ) → 1000 ≤ n → n < 10000
+    → in_decimal n ≡ (48 + n / 1000) ∷ (48 + n / 100 % 10) ∷ (48 + n / 10 % 10) ∷ (48 + n % 10) ∷ []
+four_decimals n many small =
+    let high : n / 10 / 100 ≡ n / 1000 = omega arith in
+    let middle : n / 10 / 10 ≡ n / 100 = omega arith in
+    one_decimal_more n (omega (arith, many)) (omega (arith, small))
+    ∙ ap (λ ds. ds ++ (48 + n % 10) ∷ []) (three_decimals (n / 10) (omega (arith, many)) (omega (arith, small)))
+    ∙ ap (λ m. (48 + m) ∷ (48 + n / 10 / 10 % 10) ∷ (48 + n / 10 % 10) ∷ (48 + n % 10) ∷ []) high
+    ∙ ap (λ m. (48 + n / 1000) ∷ (48 + m % 10) ∷ (48 + n / 10 % 10) ∷ (48 + n % 10) ∷ []) middle

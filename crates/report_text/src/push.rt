@@ -1,4 +1,5 @@
-ghost use Rattle.std.specs.Prelude.{◌≡◌, ◌+◌, ◌*◌, ◌^◌, ◌<◌, ◌≤◌, ◌++◌, length, map, flat_map, codes};
+ghost use Rattle.std.specs.Prelude.{◌≡◌, ◌+◌, ◌*◌, ◌^◌, ◌<◌, ◌≤◌, ◌++◌, [], length, map, flat_map, codes, pos, int_lt, if◌then◌else◌};
+ghost use Rattle.std.specs.List.{list_all};
 ghost use Rattle.std.specs.Int.Digits.{digits_of};
 ghost use Rattle.arrayvec.specs.ArrayVec.{array_vec_len};
 ghost use Rattle.hex.specs.Hex.{encode_lower};
@@ -55,9 +56,30 @@ pub(crate) fn push_decimal(line: &mut Line, n: u64)
     }
 }
 
-/// The same for a number of any length. It stands apart, so that the short ways take no room for its digits.
+/// The same for a number of more digits: three or four are put by themselves too. It stands apart, so that the
+/// short ways are short where they are used.
 #[inline(never)]
 fn push_long_decimal(line: &mut Line, n: u64)
+    requires many { 100 ≤ n }
+    requires room { array_vec_len line.old + 20 ≤ LINE_ROOM }
+    ensures text { line.new.items ≡ line.old.items ++ in_decimal n }
+    ensures len { array_vec_len line.new ≤ array_vec_len line.old + 20 }
+{
+    let last = b'0' + (n % 10) as u8;
+    let tens = b'0' + (n / 10 % 10) as u8;
+    if n < 1_000 {
+        push_text(line, &[b'0' + (n / 100) as u8, tens, last]);
+    } else if n < 10_000 {
+        let hundreds = b'0' + (n / 100 % 10) as u8;
+        push_text(line, &[b'0' + (n / 1_000) as u8, hundreds, tens, last]);
+    } else {
+        push_any_decimal(line, n);
+    }
+}
+
+/// The same for a number of any length. It stands apart, so that the others take no room for its digits.
+#[inline(never)]
+fn push_any_decimal(line: &mut Line, n: u64)
     requires { array_vec_len line.old + 20 ≤ LINE_ROOM }
     ensures text { line.new.items ≡ line.old.items ++ in_decimal n }
     ensures len { array_vec_len line.new ≤ array_vec_len line.old + 20 }
@@ -66,14 +88,27 @@ fn push_long_decimal(line: &mut Line, n: u64)
     push_text(line, buffer.format(n).as_bytes());
 }
 
-/// A number in decimal digits behind its sign, at most 20 characters.
-pub(crate) fn push_signed(line: &mut Line, n: i64)
-    requires { array_vec_len line.old + 20 ≤ LINE_ROOM }
-    ensures text { line.new.items ≡ line.old.items ++ signed_text n }
-    ensures len { array_vec_len line.new ≤ array_vec_len line.old + 20 }
+/// A blank, and the sign of a number that is below zero.
+fn push_sign(line: &mut Line, n: i64)
+    requires { array_vec_len line.old + 2 ≤ LINE_ROOM }
+    ensures text { line.new.items ≡ line.old.items ++ codes " " ++ (if int_lt n (pos 0) then codes "-" else []) }
+    ensures len { array_vec_len line.new ≤ array_vec_len line.old + 2 }
 {
-    let mut buffer = Buffer::new();
-    push_text(line, buffer.format(n).as_bytes());
+    if n < 0 {
+        push_text(line, b" -");
+    } else {
+        line.push(b' ');
+    }
+}
+
+/// A number in decimal digits behind a blank and its sign, at most 22 characters.
+pub(crate) fn push_signed(line: &mut Line, n: i64)
+    requires { array_vec_len line.old + 22 ≤ LINE_ROOM }
+    ensures text { line.new.items ≡ line.old.items ++ codes " " ++ signed_text n }
+    ensures len { array_vec_len line.new ≤ array_vec_len line.old + 22 }
+{
+    push_sign(line, n);
+    push_decimal(line, n.unsigned_abs());
 }
 
 fn hex_digit(d: u8) -> u8
@@ -210,13 +245,40 @@ fn push_byte(line: &mut Line, b: u8)
     }
 }
 
-/// The bytes that a process wrote.
-pub(crate) fn push_bytes(line: &mut Line, bytes: &[u8])
+/// Whether each byte stands for itself. It looks at all of them, whatever the first ones are, so that of many it
+/// is vector code.
+fn are_plain(bytes: &[u8]) -> bool
+    ensures { result ≡ list_all is_plain bytes.now }
+{
+    let mut plain = true;
+    for b in bytes {
+        plain &= is_plain(*b);
+    }
+    plain
+}
+
+/// Bytes that a process wrote, one by one.
+fn push_each_byte(line: &mut Line, bytes: &[u8])
     requires { array_vec_len line.old + 3 * length bytes.now ≤ LINE_ROOM }
     ensures text { line.new.items ≡ line.old.items ++ flat_map byte_text bytes.now }
     ensures len { array_vec_len line.new ≤ array_vec_len line.old + 3 * length bytes.now }
 {
     for b in bytes {
         push_byte(line, *b);
+    }
+}
+
+/// The bytes that a process wrote: at once, where each stands for itself. A single one is put without a look at others.
+pub(crate) fn push_bytes(line: &mut Line, bytes: &[u8])
+    requires { array_vec_len line.old + 3 * length bytes.now ≤ LINE_ROOM }
+    ensures text { line.new.items ≡ line.old.items ++ flat_map byte_text bytes.now }
+    ensures len { array_vec_len line.new ≤ array_vec_len line.old + 3 * length bytes.now }
+{
+    if let [b] = bytes {
+        push_byte(line, *b);
+    } else if are_plain(bytes) {
+        push_text(line, bytes);
+    } else {
+        push_each_byte(line, bytes);
     }
 }

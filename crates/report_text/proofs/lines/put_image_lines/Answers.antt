@@ -1,4 +1,4 @@
-use Rattle.std.proofs.Common.{List, ℕ, ◌++◌, ap, sym, ◌∙◌, arith, length}
+use Rattle.std.proofs.Common.{List, ℕ, ◌++◌, ap, sym, ◌∙◌, arith}
 use Rattle.image_lines.specs.PrintedLaws.{printed_last}
 use Rattle.report_text.proofs.Blocks.{next_line}
 use Rattle.report_text.proofs.lines.put_image_lines.Goals as goal

@@ -1,7 +1,7 @@
 use Rattle.std.proofs.Common.{◌≡◌, ◌+◌, ◌*◌, ◌≤◌, ◌++◌, take, flat_map}
 use Rattle.arrayvec.specs.ArrayVec.{array_vec_len}
 use Rattle.report_text.specs.Texts.{byte_text}
-use Rattle.report_text.proofs.push.push_bytes.Given as goal
+use Rattle.report_text.proofs.push.push_each_byte.Given as goal
 
 -- the bytes so far
 abbrev pub invariant-loop-b : goal.invariant-loop-b
