@@ -11,10 +11,13 @@ use delta_image::DeltaPage;
 use page_table::{PageEntry, PageTable};
 use sizes::PAGE_END;
 
-/// The least page from one on and below another one. None exactly where there is none.
+/// The least page from one on and below another one. None exactly where there is none. Costs nothing where there are no numbers between.
 fn next_below(table: &PageTable, at: u64, until: u64) -> Option<u64>
     ensures { IsNextBelow table.now.pages at until result }
 {
+    if at >= until {
+        return None;
+    }
     match table.next_from(at) {
         Some((page, _)) => { if page < until { Some(page) } else { None } }
         None => None,
@@ -32,7 +35,7 @@ fn cut_pages(table: &mut PageTable, from: u64, until: u64)
     }
 }
 
-/// Gives a page, where it is there, the delta's permissions; its frame stays.
+/// Gives a page, where it is there, the delta's permissions; its frame stays. An entry that has them is left as it stands.
 fn fit_page(table: &mut PageTable, page: &DeltaPage)
     ensures { IsFitted table.old.pages table.new.pages page.now.page page.now.perms }
 {
@@ -40,7 +43,9 @@ fn fit_page(table: &mut PageTable, page: &DeltaPage)
         Some(entry) => {
             let perms = page.perms;
             let frame = entry.frame;
-            table.set(page.page, PageEntry { perms, frame });
+            if entry.perms != perms {
+                table.set(page.page, PageEntry { perms, frame });
+            }
         }
         None => {}
     }
