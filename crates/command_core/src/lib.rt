@@ -37,4 +37,3 @@ pub use session::{CheckpointView, Counts, ProcessView, Session};
 
 /// Bytes of an instruction's word.
 pub const WORD_BYTES: u64 = 4;
-
