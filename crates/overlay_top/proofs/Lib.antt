@@ -10,6 +10,7 @@ pub mod Chosen
 pub mod Codes
 pub mod Listing
 pub mod MemoryRows
+pub mod Read
 pub mod Blocks
 pub mod Registers
 pub mod Given

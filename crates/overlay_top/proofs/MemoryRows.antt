@@ -1,4 +1,5 @@
-use Rattle.std.proofs.Common.{◌≡◌, ℕ, zero, suc, ◌+◌, ◌-◌, ◌/◌, ◌<◌, ◌≤◌, Bool, List, [], ◌++◌, ap, sym, ◌∙◌, refl, arith, Option, Some, None, Result, Ok}
+use Rattle.std.proofs.Common.{◌≡◌, ℕ, zero, suc, ◌+◌, ◌-◌, ◌*◌, ◌/◌, ◌<◌, ◌≤◌, Bool, List, [], ◌++◌, append_assoc, append-nil, ap, sym, ◌∙◌, refl, arith, inl, inr, Option, Some, None, Result, Ok}
+use Rattle.std.proofs.lemmas.Bool.{cases_lt}
 use Rattle.std.specs.Prelude.{min}
 use Rattle.ovl_io.specs.Memory.{Memory, bytes_at, first_denied}
 use Rattle.ovl_io.specs.MemoryLaws.{denied_back, denied_front}
@@ -10,6 +11,7 @@ use Rattle.command_core.specs.declared.TheConstants.{WORD_BYTES}
 use Rattle.command_core.specs.Commands.{disasm_row, disasm_text, dump_from, dump_text}
 use Rattle.command_core.specs.Looks.{look_denied, look_of}
 use Rattle.overlay_top.specs.Printing.{Sees}
+use Rattle.overlay_top.specs.declared.printing.TheConstants.{READ_BYTES}
 
 -- Bytes that were looked at, and parts of them.
 
@@ -97,3 +99,69 @@ next_word extension memory at left line some says =
 pub no_words : (extension : Bool) (memory : Memory) (at left : ℕ) → left ≤ 0 → disasm_text extension memory at left ≡ []
 unfolding disasm_text
 no_words extension memory at left none = let zero_left : left ≡ 0 = omega (arith, none) in ap (disasm_text extension memory at) zero_left
+
+-- Lines of many bytes: those of whole rows, and those behind them.
+
+front_rows : (memory : Memory) (r s at left : ℕ) → ROW_BYTES * r ≤ left
+    → dump_from (r + s) memory at left ≡ dump_from r memory at (ROW_BYTES * r) ++ dump_from s memory (at + ROW_BYTES * r) (left - ROW_BYTES * r)
+unfolding dump_from
+front_rows memory zero s at left within =
+    let all : zero + s ≡ s = omega arith in
+    let here : at ≡ at + ROW_BYTES * zero = omega arith in
+    let many : left ≡ left - ROW_BYTES * zero = omega arith in
+    ap (λ k. dump_from k memory at left) all ∙ ap (λ a. dump_from s memory a left) here ∙ ap (dump_from s memory (at + ROW_BYTES * zero)) many
+front_rows memory (suc r) s at left within =
+    let more : suc r + s ≡ suc (r + s) = omega arith in
+    let full : min ROW_BYTES left ≡ min ROW_BYTES (ROW_BYTES * suc r) = omega (arith, within) in
+    let here : at + ROW_BYTES + ROW_BYTES * r ≡ at + ROW_BYTES * suc r = omega arith in
+    let many : left - ROW_BYTES - ROW_BYTES * r ≡ left - ROW_BYTES * suc r = omega (arith, within) in
+    let fewer : ROW_BYTES * r ≡ ROW_BYTES * suc r - ROW_BYTES = omega arith in
+    let line = dump_line at (bytes_at memory at (min ROW_BYTES left)) in
+    let behind = dump_from s memory (at + ROW_BYTES * suc r) (left - ROW_BYTES * suc r) in
+    ap (λ k. dump_from k memory at left) more
+    ∙ ap (λ bs. line ++ bs) (front_rows memory r s (at + ROW_BYTES) (left - ROW_BYTES) (omega (arith, within))
+    ∙ ap (λ a. dump_from r memory (at + ROW_BYTES) (ROW_BYTES * r) ++ dump_from s memory a (left - ROW_BYTES - ROW_BYTES * r)) here
+    ∙ ap (λ n. dump_from r memory (at + ROW_BYTES) (ROW_BYTES * r) ++ dump_from s memory (at + ROW_BYTES * suc r) n) many)
+    ∙ sym (append_assoc line (dump_from r memory (at + ROW_BYTES) (ROW_BYTES * r)) behind)
+    ∙ ap (λ n. (dump_line at (bytes_at memory at n) ++ dump_from r memory (at + ROW_BYTES) (ROW_BYTES * r)) ++ behind) full
+    ∙ ap (λ n. (dump_line at (bytes_at memory at (min ROW_BYTES (ROW_BYTES * suc r))) ++ dump_from r memory (at + ROW_BYTES) n) ++ behind) fewer
+
+-- the lines of as many bytes as are read at once, or of all that are left
+pub next_rows : (memory : Memory) (at left n : ℕ) → n ≡ min READ_BYTES left
+    → dump_text memory at left ≡ dump_text memory at n ++ dump_text memory (at + n) (left - n)
+next_rows memory at left n is =
+    elim (cases_lt READ_BYTES left) [
+      | inl many ↦
+          let whole : n ≡ ROW_BYTES * 16 = omega (arith, is, many) in
+          let s = (left - n + (ROW_BYTES - 1)) / ROW_BYTES in
+          let rows : (left + (ROW_BYTES - 1)) / ROW_BYTES ≡ 16 + s = omega (arith, whole, many) in
+          let mine : 16 ≡ (n + (ROW_BYTES - 1)) / ROW_BYTES = omega (arith, whole) in
+          ap (λ k. dump_from k memory at left) rows ∙ front_rows memory 16 s at left (omega (arith, many))
+          ∙ ap (λ k. dump_from 16 memory at k ++ dump_from s memory (at + k) (left - k)) (sym whole)
+          ∙ ap (λ k. dump_from k memory at n ++ dump_from s memory (at + n) (left - n)) mine
+      | inr few ↦
+          let all : left ≡ n = omega (arith, is, few) in
+          ap (dump_text memory at) all ∙ sym (append-nil (dump_text memory at n))
+          ∙ ap (λ bs. dump_text memory at n ++ bs) (sym (no_rows memory (at + n) (left - n) (omega (arith, all))))
+    ]
+
+-- Lines of many words.
+
+pub next_words : (extension : Bool) (memory : Memory) (n at left : ℕ) → n ≤ left
+    → disasm_text extension memory at left ≡ disasm_text extension memory at n ++ disasm_text extension memory (at + WORD_BYTES * n) (left - n)
+unfolding disasm_text
+next_words extension memory zero at left within =
+    let here : at ≡ at + WORD_BYTES * zero = omega arith in
+    let many : left ≡ left - zero = omega arith in
+    ap (λ a. disasm_text extension memory a left) here ∙ ap (disasm_text extension memory (at + WORD_BYTES * zero)) many
+next_words extension memory (suc n) at left within =
+    let more : left ≡ suc (left - 1) = omega (arith, within) in
+    let here : at + WORD_BYTES + WORD_BYTES * n ≡ at + WORD_BYTES * suc n = omega arith in
+    let many : left - 1 - n ≡ left - suc n = omega (arith, within) in
+    let line = disasm_row extension memory at in
+    let front = disasm_text extension memory (at + WORD_BYTES) n in
+    ap (disasm_text extension memory at) more
+    ∙ ap (λ bs. line ++ bs) (next_words extension memory n (at + WORD_BYTES) (left - 1) (omega (arith, within))
+    ∙ ap (λ a. front ++ disasm_text extension memory a (left - 1 - n)) here
+    ∙ ap (λ k. front ++ disasm_text extension memory (at + WORD_BYTES * suc n) k) many)
+    ∙ sym (append_assoc line front (disasm_text extension memory (at + WORD_BYTES * suc n) (left - suc n)))

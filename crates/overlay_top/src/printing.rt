@@ -1,14 +1,14 @@
 //! Bytes as lines: of a process's memory, and of an image.
 
-ghost use Rattle.std.specs.Prelude.{◌≡◌, ◌<◌, ◌≤◌, ◌^◌, length};
+ghost use Rattle.std.specs.Prelude.{◌≡◌, ◌+◌, ◌*◌, ◌/◌, ◌%◌, ◌<◌, ◌≤◌, ◌^◌, length};
+ghost use Rattle.sizes.specs.declared.TheConstants.{ADDRESS_END};
 ghost use Rattle.image_lines.specs.Lines.{printed};
-ghost use Rattle.ovl_io.specs.Memory.{bytes_at};
-ghost use Rattle.report_text.specs.declared.TheConstants.{ROW_BYTES};
+ghost use Rattle.ovl_io.specs.Memory.{Memory, bytes_at};
 ghost use Rattle.report_text.specs.Answers.{IsCheckpointName};
-ghost use Rattle.report_text.specs.Lines.{disasm_line_by, dump_line, exported_text};
+ghost use Rattle.report_text.specs.Lines.{disasm_line_by, exported_text};
 ghost use Rattle.rv_mul.specs.Tables.{table_of};
 ghost use Rattle.command_core.specs.declared.TheConstants.{WORD_BYTES};
-ghost use Rattle.command_core.specs.Commands.{disasm_row};
+ghost use Rattle.command_core.specs.Commands.{disasm_text, dump_text};
 ghost use Rattle.overlay_top.specs.Sending.{SendsText};
 ghost use Rattle.overlay_top.specs.Printing.{SeesBytes, SeesWords, bytes_dumped, memory_in, words_text};
 
@@ -20,17 +20,40 @@ use report_text::{
     BLOCK_BYTES, Line, ROW_BYTES, disasm_line, disasm_m_line, dump_line, exported_line, image_lines,
 };
 
-/// Makes the line of `n` bytes of a process from an address on; they were looked at.
-fn bytes_line(session: &Session, p: u16, address: u64, n: u32, line: &mut Line)
-    requires sees { SeesBytes p address n session.now.state }
-    requires few { n ≤ ROW_BYTES }
-    ensures { line.new.items ≡ dump_line address (bytes_at (memory_in p session.now.state) address n) }
+/// How many bytes of a process are read at once: whole rows, and whole words.
+const READ_BYTES: usize = 256;
+
+/// Reads bytes of a process that were looked at.
+fn read_seen(session: &Session, p: u16, address: u64, into: &mut [u8])
+    requires sees { SeesBytes p address (length into.old) session.now.state }
+    ensures bytes { into.new ≡ bytes_at (memory_in p session.now.state) address (length into.old) }
+    ensures kept { length into.new ≡ length into.old }
 {
-    let mut row = [0; ROW_BYTES];
-    match session.read(p, address, &mut row[..n as usize]) {
-        Ok(()) => dump_line(address, &row[..n as usize], line),
+    match session.read(p, address, into) {
+        Ok(()) => {}
         Err(_) => unreachable!(),
     }
+}
+
+/// Sends the lines of bytes that lie from an address on.
+fn send_rows<K: Sink>(address: u64, bytes: &[u8], report: &mut Report<K>) -> Result<(), Failed>
+    requires low { 0 < length bytes.now → address + length bytes.now ≤ ADDRESS_END }
+    ensures sends { (memory : Memory) → bytes.now ≡ bytes_at memory address (length bytes.now)
+        → SendsText K.Sink report.old.sink.now (dump_text memory address (length bytes.now))
+        report.new.sink.now result }
+    ensures same { report.new.sink.ghost_name ≡ report.old.sink.ghost_name }
+{
+    let mut at = address;
+    let mut rest = bytes;
+    'sending: while !rest.is_empty() {
+        let n = rest.len().min(ROW_BYTES);
+        let (row, behind) = rest.split_at(n);
+        dump_line(at, row, &mut report.line);
+        report.send()?;
+        at += n as u64;
+        rest = behind;
+    }
+    Ok(())
 }
 
 /// Sends the lines of bytes of a process from an address on; they were looked at.
@@ -46,12 +69,14 @@ pub(crate) fn send_bytes<K: Sink>(
         report.new.sink.now result }
     ensures same { report.new.sink.ghost_name ≡ report.old.sink.ghost_name }
 {
+    let mut block = [0; READ_BYTES];
     let mut at = address;
     let mut left = count;
     'sending: while left > 0 {
-        let n = left.min(ROW_BYTES as u32);
-        bytes_line(session, p, at, n, &mut report.line);
-        report.send()?;
+        let n = left.min(READ_BYTES as u32);
+        let bytes = &mut block[..n as usize];
+        read_seen(session, p, at, bytes);
+        send_rows(at, bytes, report)?;
         at += u64::from(n);
         left -= n;
     }
@@ -69,16 +94,31 @@ fn instruction_line(session: &Session, address: u64, word: u32, line: &mut Line)
     }
 }
 
-/// Makes the line of the word at an address of a process; its bytes were looked at.
-fn word_line(session: &Session, p: u16, address: u64, line: &mut Line)
-    requires sees { SeesBytes p address WORD_BYTES session.now.state }
-    ensures { line.new.items ≡ disasm_row session.now.modes.extension (memory_in p session.now.state) address }
+/// Sends the lines of words that lie from an address on, one behind the other.
+fn send_instructions<K: Sink>(
+    session: &Session,
+    address: u64,
+    bytes: &[u8],
+    report: &mut Report<K>,
+) -> Result<(), Failed>
+    requires low { 0 < length bytes.now → address + length bytes.now ≤ ADDRESS_END }
+    requires whole { length bytes.now % WORD_BYTES ≡ 0 }
+    ensures sends { (memory : Memory) → bytes.now ≡ bytes_at memory address (length bytes.now)
+        → SendsText K.Sink report.old.sink.now
+        (disasm_text session.now.modes.extension memory address (length bytes.now / WORD_BYTES))
+        report.new.sink.now result }
+    ensures same { report.new.sink.ghost_name ≡ report.old.sink.ghost_name }
 {
-    let mut word = [0; WORD_BYTES as usize];
-    match session.read(p, address, &mut word) {
-        Ok(()) => instruction_line(session, address, LittleEndian::read_u32(&word), line),
-        Err(_) => unreachable!(),
+    let mut at = address;
+    let mut rest = bytes;
+    'sending: while !rest.is_empty() {
+        let (word, behind) = rest.split_at(WORD_BYTES as usize);
+        instruction_line(session, at, LittleEndian::read_u32(word), &mut report.line);
+        report.send()?;
+        at += WORD_BYTES;
+        rest = behind;
     }
+    Ok(())
 }
 
 /// Sends the lines of words of a process from an address on; their bytes were looked at.
@@ -95,13 +135,16 @@ pub(crate) fn send_words<K: Sink>(
         report.new.sink.now result }
     ensures same { report.new.sink.ghost_name ≡ report.old.sink.ghost_name }
 {
+    let mut block = [0; READ_BYTES];
     let mut at = address;
     let mut left = words;
     'sending: while left > 0 {
-        word_line(session, p, at, &mut report.line);
-        report.send()?;
-        at += WORD_BYTES;
-        left -= 1;
+        let n = left.min(READ_BYTES as u32 / WORD_BYTES as u32);
+        let bytes = &mut block[..WORD_BYTES as usize * n as usize];
+        read_seen(session, p, at, bytes);
+        send_instructions(session, at, bytes, report)?;
+        at += WORD_BYTES * u64::from(n);
+        left -= n;
     }
     Ok(())
 }

@@ -1,4 +1,4 @@
-use Rattle.std.proofs.Common.{◌++◌, ◌∙◌, ap, sym, refl}
+use Rattle.std.proofs.Common.{◌++◌, ap, sym, refl}
 use Rattle.image_lines.specs.Lines.{printed}
 use Rattle.report_text.specs.Lines.{exported_text}
 use Rattle.overlay_top.proofs.Errors.{by_err}

@@ -1,4 +1,4 @@
-use Rattle.std.proofs.Common.{◌∙◌, refl, sym, arith}
+use Rattle.std.proofs.Common.{◌∙◌, refl, sym}
 use Rattle.image_lines.specs.Lines.{printed}
 use Rattle.overlay_top.proofs.Blocks.{next_block}
 use Rattle.overlay_top.proofs.Errors.{by_err}
