@@ -133,14 +133,18 @@ class Progress:
         self.is_shown, self.done, self.failed, self.lock = is_shown, 0, 0, threading.Lock()
 
     def note(self, run):
+        """Counts a run, when it is done."""
         with self.lock:
             self.done += 1
-            if run.wrong:
-                self.failed += 1
-                print(f"{self.clear()}sweep: {run.name}: {run.wrong}", file=sys.stderr)
+            self.failed += bool(run.wrong)
             if self.is_shown:
                 print(f"\r{self.done} done, {self.failed} failed", end="", file=sys.stderr, flush=True)
         return run
+
+    def tell(self, run):
+        """Says what is wrong with a run."""
+        with self.lock:
+            print(f"{self.clear()}sweep: {run.name}: {run.wrong}", file=sys.stderr, flush=True)
 
     def clear(self):
         return "\r\033[K" if self.is_shown else ""
@@ -167,15 +171,23 @@ def main():
     with studies.output(call.output) as file:
         out = csv.writer(file, lineterminator="\n")
         out.writerow(COLUMNS)
+
+        def write(run):
+            # what is wrong is said before the row, so that both come in the order of the call, whichever run ended first
+            if run.wrong:
+                file.flush()
+                progress.tell(run)
+            out.writerow(run.row)
+
         with ThreadPoolExecutor(call.jobs) as pool:
             # a few at a time are handed out, so that a sweep of millions of runs holds a few of them
             waiting, runs = [], runs_of(call)
             for run in runs:
                 waiting.append(pool.submit(lambda one: progress.note(one.do(program, read, call.reports)), run))
                 if len(waiting) >= 8 * call.jobs:
-                    out.writerow(waiting.pop(0).result().row)
+                    write(waiting.pop(0).result())
             for one in waiting:
-                out.writerow(one.result().row)
+                write(one.result())
     progress.end()
     if call.output != "-":
         print(f"{call.output}: {progress.done} runs, {progress.failed} failed")
