@@ -1,6 +1,9 @@
 use Rattle.std.proofs.Common.{◌≡◌, ℕ, zero, suc, ◌+◌, ◌-◌, ◌*◌, ◌<◌, ◌≤◌, ◌⊎◌, inl, inr, List, length, get_or, take, drop, ap, sym, ◌∙◌, arith}
 use Rattle.std.proofs.lemmas.Bool.{cases_eq, cases_lt}
 use Rattle.std.proofs.lemmas.Grind.{same_number_lists}
+use Rattle.std.specs.Prelude.{bit_or, bit_xor}
+use Rattle.std.proofs.lemmas.Nat.{and_le_l, and_le_r, le_or_l, le_or_r}
+use lib.Bits.{xor_add_and}
 use Rattle.std.proofs.lemmas.List.{get_or-drop, get_or-take, get_or_past, length-take}
 use Rattle.byteorder.specs.Endian.{little_from, little_number}
 
@@ -53,3 +56,12 @@ more_same word xs ys fit fits before same i below = by (cases_lt i (8 * word))
 -- all words are
 pub all_same : (xs ys : List ℕ) → length xs ≡ 64 → length ys ≡ 64 → AreSameBelow (8 * 8) xs ys → xs ≡ ys
 all_same xs ys long longs same = same_number_lists xs ys (omega (arith, long, longs)) (λ i below. same i (omega (arith, below, long)))
+
+-- nothing is apart of words, and of those before them
+pub none_apart : (n x y : ℕ) → bit_or n (bit_xor x y) ≡ 0 → (n ≡ 0) × (x ≡ y)
+none_apart n x y none =
+    let before = le_or_l n (bit_xor x y) in
+    let here = le_or_r n (bit_xor x y) in (
+      omega (arith, before, none),
+      omega (arith, here, none, xor_add_and x y, and_le_l x y, and_le_r x y),
+    )

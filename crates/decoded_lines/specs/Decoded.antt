@@ -1,8 +1,7 @@
-use Rattle.std.specs.Prelude.{◌≡◌, ℕ, ◌+◌, ◌*◌, ◌<◌, Bool, List, [], length, slice_index_or, take, drop, Option, None, IfSome}
+use Rattle.std.specs.Prelude.{◌≡◌, ℕ, ◌+◌, ◌*◌, ◌<◌, ◌≤◌, Bool, List, [], length, slice_get, slice_index, slice_index_or, take, drop, Option, IfSome}
 use Rattle.byteorder.specs.Endian.{little_number}
 use Rattle.rv_decode.specs.Encodable.{IsEncodableBy}
 use Rattle.rv_decode.specs.Meaning.{meaning_by}
-use Rattle.rv_decode.specs.Table.{is_base}
 use Rattle.rv_decode.specs.declared.names.Name.{Name}
 use Rattle.rv_decode.specs.declared.instruction.Instr.{Instr}
 use Rattle.decoded_lines.specs.declared.TheConstants.{KEPT_LINES, LINE_WORDS}
@@ -18,25 +17,25 @@ pub record IsOfWordBy (has : Name → Bool) (instruction : Option Instr) (word :
   pub means : instruction ≡ meaning_by has word
   pub encodable : IfSome instruction (IsEncodableBy has)
 
--- those in a slot are of a line
-abbrev pub AreOfLine : (Name → Bool) → List (Option Instr) → ℕ → List ℕ → Type 0
-AreOfLine has instructions slot line =
-    (place : ℕ) → place < LINE_WORDS → IsOfWordBy has (slice_index_or instructions (LINE_WORDS * slot + place) None) (line_word line place)
+-- so many words of a line from a place on, and not more than it has, mean what stands from another place on
+pub record AreCountedBy (has : Name → Bool) (instructions : List Instr) (at count : ℕ) (line : List ℕ) (place : ℕ) : Type 0 where
+  pub within : place + count ≤ LINE_WORDS
+  pub words : (k : ℕ) → k < count → IsOfWordBy has (slice_get instructions (at + k)) (line_word line (place + k))
+
+-- those in a slot are of a line, from each of its words on as many as its count says
+abbrev pub AreOfLine : (Name → Bool) → List Instr → List ℕ → ℕ → List ℕ → Type 0
+AreOfLine has instructions counts slot line =
+    (place : ℕ) → place < LINE_WORDS
+    → AreCountedBy has instructions (LINE_WORDS * slot + place) (slice_index counts (LINE_WORDS * slot + place)) line place
 
 -- those of a line from a word on
-abbrev pub AreFromBy : (Name → Bool) → List (Option Instr) → ℕ → List ℕ → Type 0
+abbrev pub AreFromBy : (Name → Bool) → List Instr → ℕ → List ℕ → Type 0
 AreFromBy has instructions from line =
-    (k : ℕ) → from + k < LINE_WORDS → IsOfWordBy has (slice_index_or instructions k None) (line_word line (from + k))
+    (k : ℕ) → k < length instructions → IsOfWordBy has (slice_get instructions k) (line_word line (from + k))
 
 -- each line has its instructions
-pub record AreDecoded (has : Name → Bool) (lines : List (List ℕ)) (instructions : List (Option Instr)) : Type 0 where
+pub record AreDecoded (has : Name → Bool) (lines : List (List ℕ)) (instructions : List Instr) (counts : List ℕ) : Type 0 where
   pub count : length lines ≡ KEPT_LINES
   pub all : length instructions ≡ LINE_WORDS * KEPT_LINES
-  pub each : (slot : ℕ) → slot < KEPT_LINES → AreOfLine has instructions slot (slice_index_or lines slot [])
-
--- by the table of RV64I
-abbrev pub IsOfWord : Option Instr → ℕ → Type 0
-IsOfWord instruction word = IsOfWordBy is_base instruction word
-
-abbrev pub AreFrom : List (Option Instr) → ℕ → List ℕ → Type 0
-AreFrom instructions from line = AreFromBy is_base instructions from line
+  pub counted : length counts ≡ LINE_WORDS * KEPT_LINES
+  pub each : (slot : ℕ) → slot < KEPT_LINES → AreOfLine has instructions counts slot (slice_index_or lines slot [])

@@ -1,7 +1,8 @@
 //! Lines of code, decoded: the instructions of some lines of 64 bytes, kept beside the bytes that they were decoded from.
 //!
 //! The model of a `DecodedLines` is the list of these lines, each the list of its bytes. What an instruction of one is isn't part of it: it
-//! is a function of the bytes, by the table for which the lines are made, and kept so that it isn't computed again.
+//! is a function of the bytes, by the table for which the lines are made, and kept so that it isn't computed again. Beside it stands how many
+//! words are instructions one behind the other, so that one look tells all that can be executed in sequence.
 //!
 //! - `lines`: the lines and their instructions
 #![tactic(auto)]

@@ -32,6 +32,7 @@ use Rattle.machine_core.specs.Tried.{each_counted}
 use Rattle.machine_core.specs.Access.{IsSameLoan, IsStoredBy, IsUnchanged, Leaves, lists_after, lists_lent, spaces_lent}
 use Rattle.machine_core.specs.Turns.{AreLikeGuests, Guest, exceeds, executed, execution_of, guest_executed, guest_refused, is_full, ledger_executed, ledger_stored, outcome_of, state_executed, state_left, store_made, store_of, translations_executed, units_needed}
 use Rattle.machine_core.specs.Kept.{IsBeside, guest_seen}
+use Rattle.machine_core.proofs.Staying.{stays_both, stays_same}
 
 -- What the calls of one instruction make of the memory of all spaces.
 
@@ -97,7 +98,7 @@ carried : (calls : List Call) (old next new : View) (full : Option (ℕ × ℕ))
     → IsSameLoan old new × Came old.space (spaces_lent old) (spaces_lent new) (store_made (memory_of (spaces_lent old) old.space) calls) full
     × (lists_lent new ≡ each_counted old.space (memory_of (spaces_lent old) old.space) calls (lists_after old access))
 carried calls old next new full access (same, kept, counts) done = (
-  record { loan = done.same.loan ∙ same.loan; space = done.same.space ∙ same.space },
+  record { loan = done.same.loan ∙ same.loan; space = done.same.space ∙ same.space; hand = stays_both old next new same.hand done.same.hand },
   subst (λ (s : State). Came old.space s (spaces_lent new) (store_made (memory_of s old.space) calls) full) kept
       (subst (λ p. Came p (spaces_lent next) (spaces_lent new) (store_made (memory_of (spaces_lent next) p) calls) full) same.space done.came),
   done.lists ∙ ap (λ p. each_counted p (memory_of (spaces_lent next) p) calls (lists_lent next)) same.space
@@ -111,7 +112,7 @@ pub performed : (calls : List Call) (old new : View) (full : Option (ℕ × ℕ)
     → IsPerformed calls old new full
 unfolding each_counted
 performed [] old new full (none, is) = record {
-  same = record { loan = ap (λ (v : View). v.memory.ghost_name) is; space = ap (λ (v : View). v.space) is };
+  same = record { loan = ap (λ (v : View). v.memory.ghost_name) is; space = ap (λ (v : View). v.space) is; hand = stays_same old new is };
   came = (none, ap spaces_lent is);
   lists = ap lists_lent is;
 }

@@ -28,7 +28,8 @@ use Rattle.translation_cache.specs.Counted.{counted}
 use Rattle.translation_cache.specs.CountedLaws.{IsFront, access_in_page, counted_one, front_beside, translated_front}
 use Rattle.translation_cache.specs.Translations.{with_hits}
 use Rattle.translation_cache.specs.declared.TheConstants.{SETS}
-use Rattle.machine_core.specs.Held.{IsLineHeld, IsInHand, IsReached, IsTurned, IsWordAt}
+use Rattle.machine_core.specs.Held.{IsInHand, IsReached, IsTurned, IsWordAt}
+use Rattle.machine_core.specs.InHand.{IsLineHeld}
 use Rattle.machine_core.specs.Access.{lists_lent, spaces_lent}
 use Rattle.machine_core.specs.declared.hand.Hand.{Hand}
 use Rattle.machine_core.specs.declared.view.View.{View}
@@ -51,6 +52,7 @@ code_moved view space a b line same code =
       may = ap (page_allows (memory_of (state_of view) space) executable) page ∙ code.may;
       front = subst (λ n. IsFront space n (translations_of view)) (sym page) code.front;
       bytes = code.bytes ∙ sym (ap (λ n. bytes_at (memory_of (state_of view) space) (LINE_BYTES * n) LINE_BYTES) same);
+      long = code.long;
     }
 
 -- An address of it may be fetched, and its word stands decoded there.
@@ -59,7 +61,7 @@ module _ (extension : Bool) (lines : List (List ℕ)) (view : View) (start pc at
   pub page_is : pc / PAGE_BYTES ≡ start / PAGE_BYTES
   page_is = let whole = held.whole in omega (arith, here, inside, whole)
 
-  pub word_is : (word : Option Instr) → IsOfWordBy (table_of extension).has word (line_word (get_or lines (start / LINE_BYTES % KEPT_LINES) []) at) → IsWordAt extension view pc word
+  pub word_is : (word : Instr) → IsOfWordBy (table_of extension).has (Some word) (line_word (get_or lines (start / LINE_BYTES % KEPT_LINES) []) at) → IsWordAt extension view pc word
   word_is word is =
       let whole = held.whole in
       let low = held.low in
@@ -161,6 +163,33 @@ bytes_allow : (m : Memory) (a : ℕ) (bytes : List ℕ) (need q : ℕ) → page_
 bytes_allow m a [] need q = refl
 bytes_allow m a (b ∷ bytes) need q = bytes_allow (with_byte m a b) (a + 1) bytes need q ∙ byte_allows m a b need q
 
+-- Where its page is still at the front of its list, a line stays what it was, where nothing was stored in it.
+module _ (old new : TranslatedView) (space start : ℕ) (line : List ℕ) (front : IsFront space (start / PAGE_BYTES) (translations_of new)) (code : IsCodeLine old space start line) where
+  pub code_same : state_of new ≡ state_of old → IsCodeLine new space start line
+  code_same same = record {
+    may = ap (λ (s : State). page_allows (memory_of s space) executable (start / PAGE_BYTES)) same ∙ code.may;
+    front = front;
+    bytes = code.bytes ∙ sym (ap (λ (s : State). bytes_at (memory_of s space) (LINE_BYTES * (start / LINE_BYTES)) LINE_BYTES) same);
+    long = code.long;
+  }
+
+  pub code_off : (address : ℕ) (bytes : List ℕ) → (address / PAGE_BYTES ≡ start / PAGE_BYTES → ⊥) → address % PAGE_BYTES + length bytes ≤ PAGE_BYTES
+      → memory_of (state_of new) space ≡ with_bytes (memory_of (state_of old) space) address bytes → IsCodeLine new space start line
+  code_off address bytes other fits memory = record {
+    may = ap (λ m. page_allows m executable (start / PAGE_BYTES)) memory ∙ bytes_allow (memory_of (state_of old) space) address bytes executable (start / PAGE_BYTES) ∙ code.may;
+    front = front;
+    bytes = code.bytes
+        ∙ sym (ap (λ m. bytes_at m (LINE_BYTES * (start / LINE_BYTES)) LINE_BYTES) memory
+        ∙ bytes_beside (memory_of (state_of old) space) address bytes (LINE_BYTES * (start / LINE_BYTES)) LINE_BYTES (out (cases_order (address / PAGE_BYTES) (start / PAGE_BYTES))));
+    long = code.long;
+  }
+    where
+      out : (address / PAGE_BYTES ≡ start / PAGE_BYTES) ⊎ ((address / PAGE_BYTES < start / PAGE_BYTES) ⊎ (start / PAGE_BYTES < address / PAGE_BYTES))
+          → (LINE_BYTES * (start / LINE_BYTES) + LINE_BYTES ≤ address) ⊎ (address + length bytes ≤ LINE_BYTES * (start / LINE_BYTES))
+      out (inl same) = absurd (other same)
+      out (inr (inl less)) = inr (omega (arith, less, fits))
+      out (inr (inr more)) = inl (omega (arith, more))
+
 -- An access in one page of another list leaves the line.
 
 pub record IsApart (address start : ℕ) : Type 0 where
@@ -179,24 +208,10 @@ module _ (old new : TranslatedView) (space start address need count : ℕ) (line
       (front_beside space space (start / PAGE_BYTES) (address / PAGE_BYTES) (memory_of (state_of old) space) (translations_of old) (λ same. apart.sets (sym same)) code.front)
 
   pub code_kept : state_of new ≡ state_of old → IsCodeLine new space start line
-  code_kept same = record {
-    may = ap (λ (s : State). page_allows (memory_of s space) executable (start / PAGE_BYTES)) same ∙ code.may;
-    front = front_left;
-    bytes = code.bytes ∙ sym (ap (λ (s : State). bytes_at (memory_of s space) (LINE_BYTES * (start / LINE_BYTES)) LINE_BYTES) same);
-  }
+  code_kept same = code_same old new space start line front_left code same
 
   pub code_beside : (bytes : List ℕ) → length bytes ≡ count → memory_of (state_of new) space ≡ with_bytes (memory_of (state_of old) space) address bytes
       → IsCodeLine new space start line
-  code_beside bytes length_is memory = record {
-    may = ap (λ m. page_allows m executable (start / PAGE_BYTES)) memory ∙ bytes_allow (memory_of (state_of old) space) address bytes executable (start / PAGE_BYTES) ∙ code.may;
-    front = front_left;
-    bytes = code.bytes
-        ∙ sym (ap (λ m. bytes_at m (LINE_BYTES * (start / LINE_BYTES)) LINE_BYTES) memory
-        ∙ bytes_beside (memory_of (state_of old) space) address bytes (LINE_BYTES * (start / LINE_BYTES)) LINE_BYTES (out (cases_order (address / PAGE_BYTES) (start / PAGE_BYTES))));
-  }
-    where
-      out : (address / PAGE_BYTES ≡ start / PAGE_BYTES) ⊎ ((address / PAGE_BYTES < start / PAGE_BYTES) ⊎ (start / PAGE_BYTES < address / PAGE_BYTES))
-          → (LINE_BYTES * (start / LINE_BYTES) + LINE_BYTES ≤ address) ⊎ (address + length bytes ≤ LINE_BYTES * (start / LINE_BYTES))
-      out (inl same) = absurd (apart.sets (ap (λ n. n % SETS) same))
-      out (inr (inl less)) = let fits = apart.one_page in inr (omega (arith, less, fits, few, length_is))
-      out (inr (inr more)) = inl (omega (arith, more))
+  code_beside bytes length_is memory =
+      let fits = apart.one_page in
+      code_off old new space start line front_left code address bytes (λ same. apart.sets (ap (λ n. n % SETS) same)) (omega (arith, fits, few, length_is)) memory

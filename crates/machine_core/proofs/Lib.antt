@@ -2,13 +2,16 @@ pub mod Constants
 pub mod Requests
 pub mod Bytes
 pub mod Holding
+pub mod Staying
 pub mod Leaving
+pub mod Viewing
 pub mod Executing
 pub mod Ahead
 pub mod Owing
 pub mod Listed
 pub mod Accessing
 pub mod Stepping
+pub mod Fetching
 pub mod Runs
 pub mod Machines
 pub mod Plays

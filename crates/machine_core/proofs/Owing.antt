@@ -12,6 +12,7 @@ use Rattle.overlay_pages.specs.State.{memory_of}
 use Rattle.machine_core.specs.Access.{IsSameLoan, lists_lent, spaces_lent}
 use Rattle.machine_core.specs.Ahead.{ahead, guest_ahead}
 use Rattle.machine_core.specs.Held.{Makes}
+use Rattle.machine_core.specs.InHand.{StaysInHand}
 use Rattle.machine_core.specs.Kept.{IsBeside, guest_lent, guest_seen}
 use Rattle.machine_core.specs.Tried.{each_counted, tried_counted}
 use Rattle.machine_core.specs.Turns.{AreLikeGuests, executed, outcome_of, state_left, store_made, translations_executed}
@@ -23,6 +24,7 @@ use Rattle.machine_core.proofs.Holding.{fetched_front}
 
 -- An execution whose fetch may be still to be counted, in the space that is lent.
 pub record IsExecutedOwing (extension : Bool) (k n : ℕ) (old new : View) (before after : declared.Process) (o : Outcome) : Type 0 where
+  pub stays : StaysInHand old new
   pub loan : new.memory.ghost_name ≡ old.memory.ghost_name
   pub space : new.space ≡ old.space
   pub outcome_is : o ≡ outcome_of old.space (guest_ahead k (guest_lent extension old before))
@@ -72,6 +74,7 @@ owing extension k n pc old new process regs o done runs made =
     let one = executes extension old.space (spaces_lent old) (spaces_lent new) (ahead k (lists_lent old)) (ahead n (lists_lent new)) process regs o
     (subst (λ (m : Memory). Executes (execution_by (table_of extension) process.regs memory) process.regs memory regs m o) moved done) runs counts all.came in
     record {
+      stays = all.same.hand;
       loan = all.same.loan;
       space = all.same.space;
       outcome_is = one.outcome_is;

@@ -1,7 +1,8 @@
 use Rattle.std.specs.Prelude.{◌≡◌, ℕ, ◌<◌, true, List, [], ◌∷◌, length, Option, Some, None, Result, Ok, Err}
 use Rattle.ledger.specs.Units.{units}
 use Rattle.ovl_io.specs.Memory.{Access, denied_at}
-use Rattle.rv_execute.specs.Calls.{Call, Performs, fetch_at, load_at, store_at}
+use Rattle.rv_execute.specs.Calls.{Call, LoadsBytes, Performs, StoresBytes, fetch_at, load_at, store_at}
+use Rattle.rv_execute.specs.declared.memory.Denied.{Denied}
 use Rattle.rv_execute.specs.declared.memory.Refused.{Refused}
 use Rattle.rv_execute.specs.declared.memory.Refused.TheVariants as refused
 use Rattle.overlay_memory.specs.Access.{IsStored, stored_books}
@@ -13,6 +14,7 @@ use Rattle.overlay_memory.specs.View.{NoneAwaits, state_of, translations_of}
 use Rattle.translation_cache.specs.Bare.{BareTranslations}
 use Rattle.translation_cache.specs.Counted.{counted}
 use Rattle.space_maps.specs.Spaces.{holds_space}
+use Rattle.machine_core.specs.InHand.{StaysInHand}
 use Rattle.machine_core.specs.declared.view.View.{View}
 
 -- What the calls of an instruction make of the memory of all spaces.
@@ -45,10 +47,11 @@ pub record IsReadyView (view : View) : Type 0 where
   pub there : holds_space (spaces_lent view) view.space ≡ true
   pub none_awaits : NoneAwaits (spaces_lent view) view.space
 
--- the same loan of the same space
+-- the same loan of the same space, with the lines in hand or without
 pub record IsSameLoan (old new : View) : Type 0 where
   pub loan : new.memory.ghost_name ≡ old.memory.ghost_name
   pub space : new.space ≡ old.space
+  pub hand : StaysInHand old new
 
 -- nothing changed of it, but that an access was translated
 abbrev pub IsUnchanged : Access → View → View → Type 0
@@ -68,6 +71,14 @@ abbrev pub IsStoredBy : View → ℕ → List ℕ → Result (Unit {0}) Refused 
 IsStoredBy old address bytes answer new =
     IsSameLoan old new × Leaves old.space (spaces_lent old) address bytes answer (spaces_lent new)
     × (lists_lent new ≡ lists_after old (store_at address (length bytes)))
+
+-- what a load and a store of the space that is lent answer
+abbrev pub LoadsLent : View → ℕ → ℕ → List ℕ → Result (Unit {0}) Denied → Type 0
+LoadsLent view address count given answer = LoadsBytes (memory_of (spaces_lent view) view.space) address count given answer
+
+abbrev pub StoresLent : View → ℕ → List ℕ → Result (Unit {0}) Refused → View → Type 0
+StoresLent old address bytes answer new =
+    StoresBytes (memory_of (spaces_lent old) old.space) address bytes answer (memory_of (spaces_lent new) new.space)
 
 -- what calls made of it, one after the other
 abbrev pub PerformsLent : List Call → View → Option (ℕ × ℕ) → View → Type 0

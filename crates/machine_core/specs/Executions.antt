@@ -1,4 +1,4 @@
-use Rattle.std.specs.Prelude.{◌≡◌, ℕ, zero, suc, ◌+◌, ◌-◌, ◌≤◌, Bool, if◌then◌else◌, Option}
+use Rattle.std.specs.Prelude.{◌≡◌, ℕ, zero, suc, ◌+◌, ◌-◌, ◌<◌, ◌≤◌, Bool, if◌then◌else◌, Option}
 use Rattle.std.specs.Borrow.{Bor}
 use Rattle.std.specs.Option.{option_copied, option_map_or, unwrap_or}
 use Rattle.std.specs.FinSet.{contains, empty}
@@ -84,6 +84,12 @@ Comes stops p most guest n Stepped next = (n ≤ most) × AreLikeExecutions (aft
 Comes stops p most guest n Asked next = (n ≤ most) × EndsWith (executions stops p most guest) n Asked next
 Comes stops p most guest n (Fault kind address) next = (n ≤ most) × EndsWith (executions stops p most guest) n (Fault kind address) next
 Comes stops p most guest n (Full units limit) next = (n ≤ most) × EndsWith (executions stops p most guest) n (Full units limit) next
+
+-- what comes from a state comes from another one too
+abbrev pub ComesFrom : ℕ → Guest → ℕ → Guest → Type 0
+ComesFrom p now q first =
+    (stops : Addresses) (most n : ℕ) (o : Outcome) (next : Guest) → 0 < most → (o ≡ Stepped → 0 < n) → Comes stops p most now n o next
+    → Comes stops q most first n o next
 
 -- of a process that may be there: how many were steps, and what came of the last one
 abbrev pub steps_of : Addresses → ℕ → ℕ → Option Guest → ℕ

@@ -1,10 +1,11 @@
-use Rattle.std.specs.Prelude.{◌≡◌, ℕ, ◌+◌, ◌-◌, ◌*◌, ◌/◌, ◌%◌, ◌^◌, ◌<◌, ◌≤◌, ◌⊎◌, ◌&&◌, ◌==◌, nat_le, Bool, not, true, false, List, [], ◌∷◌, slice_index_or, Option, None, IfSome, if◌then◌else◌}
+use Rattle.std.specs.Prelude.{◌≡◌, ℕ, ◌+◌, ◌*◌, ◌/◌, ◌%◌, ◌^◌, ◌<◌, ◌≤◌, ◌⊎◌, nat_lt, length, Bool, true, false, List, [], ◌∷◌, Option, Some, None}
 use Rattle.std.specs.FinSet.{contains}
 use Rattle.sizes.specs.declared.TheConstants.{LINE_BYTES, PAGE_BYTES, PAGE_LINES}
 use Rattle.breakpoints.specs.Breakpoints.{Addresses}
 use Rattle.overlay_bits.specs.Lines.{has_line}
-use Rattle.decoded_lines.specs.declared.TheConstants.{KEPT_LINES, LINE_WORDS}
+use Rattle.decoded_lines.specs.declared.TheConstants.{LINE_WORDS}
 use Rattle.ovl_io.specs.Memory.{denied_at}
+use Rattle.ovl_io.specs.declared.process_state.ProcessState.TheVariants.{Running}
 use Rattle.rv_decode.specs.Encodable.{IsEncodableBy}
 use Rattle.rv_decode.specs.Meaning.{meaning_by}
 use Rattle.rv_decode.specs.declared.instruction.Instr.{Instr}
@@ -14,26 +15,21 @@ use Rattle.rv_execute.specs.declared.action.Action.TheVariants as action
 use Rattle.rv_execute.specs.declared.outcome.Outcome.{Outcome}
 use Rattle.rv_execute.specs.declared.outcome.Outcome.TheVariants.{Stepped, Asked, Fault, Full}
 use Rattle.rv_mul.specs.Tables.{table_of}
-use Rattle.overlay_memory.specs.Code.{IsCodeLine}
 use Rattle.overlay_memory.specs.View.{TranslatedView}
 use Rattle.overlay_pages.specs.State.{memory_of}
-use Rattle.translation_cache.specs.declared.TheConstants.{SETS}
 use Rattle.translation_cache.specs.CountedLaws.{IsFront}
 use Rattle.machine_core.specs.Access.{IsReadyView, PerformsLent, lists_lent, spaces_lent}
-use Rattle.machine_core.specs.declared.hand.Course.{Course}
-use Rattle.machine_core.specs.declared.hand.Course.TheVariants.{On, Elsewhere, Lost}
+use Rattle.machine_core.specs.Ahead.{guest_ahead}
+use Rattle.machine_core.specs.Executions.{Comes, ComesFrom}
+use Rattle.machine_core.specs.InHand.{IsLineHeld, KeepsHand}
+use Rattle.machine_core.specs.Kept.{IsBeside, guest_lent}
+use Rattle.machine_core.specs.declared.process.Process.{Process}
 use Rattle.machine_core.specs.declared.hand.Hand.{Hand}
 use Rattle.machine_core.specs.declared.view.View.{View}
 
 -- The lines that instructions are taken from, decoded.
 
--- A line of a space stands among those that are decoded, with the bytes that the memory has.
-pub record IsLineHeld (lines : List (List ℕ)) (memory : TranslatedView) (space start : ℕ) : Type 0 where
-  pub whole : start % LINE_BYTES ≡ 0
-  pub low : start < 2 ^ 64
-  pub code : IsCodeLine memory space start (slice_index_or lines (start / LINE_BYTES % KEPT_LINES) [])
-
--- so do those in hand
+-- Lines stand among those that are decoded.
 abbrev pub IsInHand : List (List ℕ) → TranslatedView → ℕ → Hand → Type 0
 IsInHand lines memory space hand =
     (line : ℕ) → line < PAGE_LINES → has_line hand.known line ≡ true → IsLineHeld lines memory space (PAGE_BYTES * hand.page + LINE_BYTES * line)
@@ -57,13 +53,13 @@ abbrev pub GoesPast : Addresses → ℕ → ℕ → Type 0
 GoesPast stops address count = (k : ℕ) → 0 < k → k < count → contains stops (address + 4 * k) ≡ false
 
 -- A word may be fetched from a page at the front of its list, and stands decoded, with extension M or without.
-pub record IsWordAt (extension : Bool) (view : View) (address : ℕ) (word : Option Instr) : Type 0 where
+pub record IsWordAt (extension : Bool) (view : View) (address : ℕ) (word : Instr) : Type 0 where
   pub low : address < 2 ^ 64
   pub aligned : address % 4 ≡ 0
   pub may : denied_at (memory_of (spaces_lent view) view.space) (fetch_at address) ≡ None
   pub front : IsFront view.space (address / PAGE_BYTES) (lists_lent view)
-  pub means : word ≡ meaning_by (table_of extension).has (word_at (memory_of (spaces_lent view) view.space) address)
-  pub encodable : IfSome word (IsEncodableBy (table_of extension).has)
+  pub means : Some word ≡ meaning_by (table_of extension).has (word_at (memory_of (spaces_lent view) view.space) address)
+  pub encodable : IsEncodableBy (table_of extension).has word
 
 -- What calls made of it where the fetch may be still to be counted.
 pub data Makes (k n pc : ℕ) (calls : List Call) (old : View) (full : Option (ℕ × ℕ)) (new : View) : Type 0 where
@@ -71,51 +67,58 @@ pub data Makes (k n pc : ℕ) (calls : List Call) (old : View) (full : Option (�
   FetchOwed : (rest : List Call) → n ≡ k + 1 → calls ≡ Fetch pc ∷ rest → pc % 4 ≡ 0 → IsFront old.space (pc / PAGE_BYTES) (lists_lent old)
       → PerformsLent rest old full new → Makes k n pc calls old full new
 
--- An access whose page isn't in the list of the line's page, and that lies in one page, leaves the line in hand.
-abbrev pub is_apart : ℕ → ℕ → Bool
-is_apart address pc = not (address / PAGE_BYTES % SETS == pc / PAGE_BYTES % SETS) && nat_le (address % PAGE_BYTES) (PAGE_BYTES - 8)
+-- Whether the next word follows an action that is a step, where so many lines are in hand then.
+abbrev pub goes_on : Action → List ℕ → Bool
+goes_on (action.Load address size extension) known = nat_lt 0 (length known)
+goes_on (action.Store address size value) known = nat_lt 0 (length known)
+goes_on (action.Write value) known = true
+goes_on (action.Link target) known = false
+goes_on (action.Goto target) known = false
+goes_on action.Next known = true
+goes_on action.Ask known = false
+goes_on action.Stop known = false
 
--- What follows an instruction at an address, by what it does.
-abbrev pub course_by : ℕ → ℕ → Course
-course_by address pc = if is_apart address pc then On else Lost
+-- it follows only a step
+abbrev pub goes_behind : Outcome → Action → List ℕ → Bool
+goes_behind Stepped action known = goes_on action known
+goes_behind Asked action known = false
+goes_behind (Fault kind address) action known = false
+goes_behind (Full units limit) action known = false
 
-abbrev pub course_of : Action → ℕ → Course
-course_of (action.Load address size extension) pc = course_by address pc
-course_of (action.Store address size value) pc = course_by address pc
-course_of (action.Write value) pc = On
-course_of (action.Link target) pc = Elsewhere
-course_of (action.Goto target) pc = Elsewhere
-course_of action.Next pc = On
-course_of action.Ask pc = Elsewhere
-course_of action.Stop pc = Elsewhere
+-- the next word of a line in hand follows
+pub record IsOn (old new : View) (pc next : ℕ) (outcome : Outcome) : Type 0 where
+  pub stepped : outcome ≡ Stepped
+  pub next_is : next ≡ (pc + 4) % 2 ^ 64
+  pub keeps : KeepsHand old new
 
--- the next word follows only a step
-abbrev pub course_behind : Outcome → Course → Course
-course_behind Stepped course = course
-course_behind Asked course = Elsewhere
-course_behind (Fault kind address) course = Elsewhere
-course_behind (Full units limit) course = Elsewhere
-
--- a line of the page of an instruction is held of what follows, where it was
-abbrev pub KeepsLinesHeld : View → View → ℕ → Type 0
-KeepsLinesHeld old new pc =
-    (lines : List (List ℕ)) (start : ℕ) → IsLineHeld lines old.memory.now old.space start → pc / PAGE_BYTES ≡ start / PAGE_BYTES
-    → IsLineHeld lines new.memory.now new.space start
-
-abbrev pub Keeps : Course → View → View → ℕ → ℕ → Type 0
-Keeps On old new pc next = (next ≡ (pc + 4) % 2 ^ 64) × KeepsLinesHeld old new pc
-Keeps Elsewhere old new pc next = KeepsLinesHeld old new pc
-Keeps Lost old new pc next = Unit {0}
-
--- what is left in hand
-abbrev pub IsLeft : Course → Hand → Hand → Type 0
-IsLeft On old new = new ≡ record { page = old.page; known = old.known; owed = new.owed }
-IsLeft Elsewhere old new = new ≡ record { page = old.page; known = old.known; owed = new.owed }
-IsLeft Lost old new = new.known ≡ []
+-- so many more fetches are owed
+abbrev pub owing : Hand → ℕ → Hand
+owing hand n = record { page = hand.page; known = hand.known; owed = hand.owed + n }
 
 -- What is true behind some steps.
-pub record HoldsOn (lines : List (List ℕ)) (view : View) (owed n : ℕ) (hand : Hand) : Type 0 where
+pub record HoldsOn (lines : List (List ℕ)) (view : View) (owed n : ℕ) : Type 0 where
   pub ready : IsReadyView view
-  pub hand_is : IsInHand lines view.memory.now view.space hand
-  pub owes : hand.owed ≤ owed + n
+  pub hand_is : IsInHand lines view.memory.now view.space view.hand
+  pub owes : view.hand.owed ≤ owed + n
   pub some : 0 < n
+
+-- What a run of at most so many instructions leaves, of which so many were steps, and the last came to this: in the space that was lent, with fetches
+-- that are still to be counted. The last step may have left the pc at a stop.
+pub record HasRun (extension : Bool) (stops : Addresses) (most : ℕ) (lines : List (List ℕ)) (before after : Process) (old new : View) (n : ℕ) (o : Outcome) : Type 0 where
+  pub loan : new.memory.ghost_name ≡ old.memory.ghost_name
+  pub space : new.space ≡ old.space
+  pub came : Comes stops old.space most (guest_ahead old.hand.owed (guest_lent extension old before)) n o (guest_ahead new.hand.owed (guest_lent extension new after))
+  pub running : o ≡ Stepped → after.state ≡ Running
+  pub goes : o ≡ Stepped → HoldsOn lines new old.hand.owed n
+  pub saved : after.saved ≡ before.saved
+  pub beside : IsBeside old.space (spaces_lent old) (spaces_lent new)
+
+-- What is so where a line was to come in hand, and where it did: what comes of executions then comes of those before.
+pub record HasReached (extension : Bool) (lines : List (List ℕ)) (process : Process) (old new : View) (reached : Bool) : Type 0 where
+  pub ready : IsReadyView new
+  pub loan : new.memory.ghost_name ≡ old.memory.ghost_name
+  pub space : new.space ≡ old.space
+  pub spaces : spaces_lent new ≡ spaces_lent old
+  pub owed : new.hand.owed ≤ old.hand.owed
+  pub taken : reached ≡ true → IsReached lines new.memory.now new.space new.hand process.regs.pc
+  pub from : ComesFrom new.space (guest_ahead new.hand.owed (guest_lent extension new process)) old.space (guest_ahead old.hand.owed (guest_lent extension old process))

@@ -5,6 +5,7 @@ pub mod BareTurns
 pub mod Executions
 pub mod Play
 pub mod Codes
+pub mod InHand
 pub mod Access
 pub mod Held
 pub mod Ahead

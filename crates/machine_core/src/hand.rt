@@ -1,17 +1,15 @@
 //! The lines that instructions are taken from, decoded.
 
-ghost use Rattle.std.specs.Prelude.{◌≡◌, ℕ, ◌/◌, ◌%◌, ◌<◌, [], true};
+ghost use Rattle.std.specs.Prelude.{◌≡◌, ◌/◌, ◌%◌, ◌<◌, [], true};
 ghost use Rattle.sizes.specs.declared.TheConstants.{LINE_BYTES, PAGE_BYTES, PAGE_LINES};
-ghost use Rattle.machine_core.specs.Access.{IsSameLoan, lists_lent, spaces_lent};
-ghost use Rattle.machine_core.specs.Ahead.{ahead};
-ghost use Rattle.machine_core.specs.Held.{IsInHand, IsReached, IsTurned, course_by, course_of, is_apart};
+ghost use Rattle.machine_core.specs.Held.{IsInHand, IsReached, IsTurned};
+ghost use Rattle.machine_core.specs.InHand.{is_apart, lost, parted, without_page};
 
-use crate::view::View;
 use decoded_lines::DecodedLines;
 use overlay_bits::Bits;
 use overlay_memory::OverlayMemory;
+use ovl_io::Perms;
 use rv_decode::Decoder;
-use rv_execute::Action;
 use sizes::{LINE_BYTES, PAGE_BYTES, PAGE_LINES};
 use translation_cache::SETS;
 
@@ -24,58 +22,9 @@ pub(crate) struct Hand {
     pub(crate) owed: u32,
 }
 
-/// What follows an instruction of a line in hand that is a step.
-#[derive(Clone, Copy, Debug, PartialEq, Eq)]
-pub(crate) enum Course {
-    /// The word behind it, and the lines are still in hand.
-    On,
-    /// Any word, and the lines are still in hand.
-    Elsewhere,
-    /// The word behind it, and a line may have changed, or their page may not be at the front of its list any more.
-    Lost,
-}
-
-/// Whether an access of at most 8 bytes lies in one page, of another list of translations than that of pc.
-#[inline]
-fn is_apart(address: u64, pc: u64) -> bool
-    ensures { result ≡ is_apart address pc }
-{
-    address / PAGE_BYTES as u64 % SETS as u64 != pc / PAGE_BYTES as u64 % SETS as u64
-        && address % PAGE_BYTES as u64 <= PAGE_BYTES as u64 - 8
-}
-
-/// What follows an access of the instruction at pc.
-#[inline]
-fn course_by(address: u64, pc: u64) -> Course
-    ensures { result ≡ course_by address pc }
-{
-    if is_apart(address, pc) {
-        Course::On
-    } else {
-        Course::Lost
-    }
-}
-
-/// What follows an action of the instruction at pc.
-#[inline]
-pub(crate) fn course_of(action: &Action, pc: u64) -> Course
-    ensures { result ≡ course_of action.now pc }
-{
-    match *action {
-        Action::Load(address, _, _) => course_by(address, pc),
-        Action::Store(address, _, _) => course_by(address, pc),
-        Action::Write(_) => Course::On,
-        Action::Next => Course::On,
-        Action::Link(_) => Course::Elsewhere,
-        Action::Goto(_) => Course::Elsewhere,
-        Action::Ask => Course::Elsewhere,
-        Action::Stop => Course::Elsewhere,
-    }
-}
-
 /// The page of an address.
 #[inline(always)]
-fn page_of(address: u64) -> u64
+pub(crate) fn page_of(address: u64) -> u64
     ensures { result ≡ address / PAGE_BYTES }
 {
     address / PAGE_BYTES as u64
@@ -88,6 +37,15 @@ fn line_of(address: u64) -> u8
     ensures low { result < PAGE_LINES }
 {
     (address / LINE_BYTES as u64 % PAGE_LINES as u64) as u8
+}
+
+/// Whether an access of at most 8 bytes lies in one page, of another list of translations than that of a page.
+#[inline]
+fn is_apart(address: u64, page: u64) -> bool
+    ensures { result ≡ is_apart address page }
+{
+    page_of(address) % SETS as u64 != page % SETS as u64
+        && address % PAGE_BYTES as u64 <= PAGE_BYTES as u64 - 8
 }
 
 impl Hand {
@@ -105,19 +63,28 @@ impl Hand {
     /// Has no line any more.
     #[inline]
     pub(crate) fn lose(&mut self)
-        ensures { self.new ≡ record { page = self.old.page; known = []; owed = self.old.owed } }
+        ensures { self.new ≡ lost self.old }
     {
         self.known = Bits::empty();
     }
 
-    /// Counts the fetches that are still to be counted.
-    pub(crate) fn pay(&self, view: &mut View)
-        ensures same { IsSameLoan view.old view.new }
-        ensures spaces { spaces_lent view.new ≡ spaces_lent view.old }
-        ensures lists { lists_lent view.new ≡ ahead self.now.owed (lists_lent view.old) }
+    /// Has no line any more behind an access that may change one of them, or move their page from the front of its list.
+    #[inline]
+    pub(crate) fn part(&mut self, address: u64)
+        ensures { self.new ≡ parted address self.old }
     {
-        if self.owed > 0 {
-            view.memory.count_fronts(u64::from(self.owed));
+        if !is_apart(address, self.page) {
+            self.lose();
+        }
+    }
+
+    /// Has no line of a page any more.
+    #[inline(always)]
+    pub(crate) fn lose_page(&mut self, page: u64)
+        ensures { self.new ≡ without_page page self.old }
+    {
+        if page == self.page {
+            self.lose();
         }
     }
 
@@ -150,7 +117,7 @@ impl Hand {
         if pc % 4 != 0 {
             return false;
         }
-        match memory.code_line(space, pc) {
+        match memory.front_line(space, pc, Perms::X) {
             Some(line) => {
                 lines.enter(pc / LINE_BYTES as u64, line);
                 self.turn_to(page_of(pc));

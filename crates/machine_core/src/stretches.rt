@@ -3,7 +3,6 @@
 
 ghost use Rattle.std.specs.Prelude.{◌≡◌, ◌≢◌, ℕ, ◌+◌, ◌%◌, ◌^◌, ◌<◌, ◌≤◌, [], true};
 ghost use Rattle.std.specs.FinSet.{contains};
-ghost use Rattle.rv_decode.specs.declared.instruction.Instr.{Instr};
 ghost use Rattle.rv_execute.specs.Execution.{Executed, execution_by, full_in};
 ghost use Rattle.rv_mul.specs.Tables.{table_of};
 ghost use Rattle.overlay_pages.specs.State.{memory_of};
@@ -13,41 +12,61 @@ ghost use Rattle.breakpoints.specs.Breakpoints.{Addresses};
 ghost use Rattle.machine_core.specs.Access.{IsReadyView, spaces_lent};
 ghost use Rattle.machine_core.specs.Ahead.{guest_ahead};
 ghost use Rattle.machine_core.specs.Executions.{Comes, EndsWith, executions, steps_in, stops_in};
-ghost use Rattle.machine_core.specs.Held.{course_behind, AreInLine, HoldsOn, GoesPast, IsInHand, IsLeft, IsReached, IsWordAt, Keeps, Makes};
+ghost use Rattle.machine_core.specs.Held.{AreInLine, GoesPast, HasReached, HasRun, IsInHand, IsOn, IsReached, IsWordAt, Makes, goes_behind, goes_on, owing};
+ghost use Rattle.machine_core.specs.InHand.{StaysInHand};
 ghost use Rattle.machine_core.specs.Kept.{IsBeside, guest_in, guest_lent};
 ghost use Rattle.machine_core.specs.Turns.{AreLikeGuests, executed, outcome_of, state_left};
 
-use crate::hand::{Course, Hand, course_of};
+use crate::hand::Hand;
 use crate::process::Process;
 use crate::view::View;
 use breakpoints::Addresses;
 use decoded_lines::DecodedLines;
+use overlay_bits::Bits;
 use overlay_memory::OverlayMemory;
-use ovl_io::{FaultKind, ProcessState};
+use ovl_io::{Perms, ProcessState};
 use rv_decode::Instr;
-use rv_execute::{Outcome, Regs, perform};
+use rv_execute::{Action, Outcome, Regs, perform};
 use rv_mul::Instructions;
 
-/// What follows an instruction of which that came: the next word of the line only where it was a step.
+/// Whether the next word of the line follows an action that is a step: it doesn't jump, and lines are still in hand.
 #[inline(always)]
-fn course_behind(outcome: Outcome, course: Course) -> Course
-    ensures { result ≡ course_behind outcome course }
+fn goes_on(action: &Action, known: Bits) -> bool
+    ensures { result ≡ goes_on action.now known }
 {
-    match outcome {
-        Outcome::Stepped => course,
-        Outcome::Asked => Course::Elsewhere,
-        Outcome::Fault(_, _) => Course::Elsewhere,
-        Outcome::Full(_, _) => Course::Elsewhere,
+    match *action {
+        Action::Load(_, _, _) => 0 < known.len(),
+        Action::Store(_, _, _) => 0 < known.len(),
+        Action::Write(_) => true,
+        Action::Next => true,
+        Action::Link(_) => false,
+        Action::Goto(_) => false,
+        Action::Ask => false,
+        Action::Stop => false,
     }
 }
 
-/// As `Instructions::execute`, of a word that stands decoded. Its fetch is still to be counted.
+/// The same of an action of which that came: only a step is followed.
+#[inline(always)]
+fn goes_behind(outcome: Outcome, action: &Action, known: Bits) -> bool
+    ensures { result ≡ goes_behind outcome action.now known }
+{
+    match outcome {
+        Outcome::Stepped => goes_on(action, known),
+        Outcome::Asked => false,
+        Outcome::Fault(_, _) => false,
+        Outcome::Full(_, _) => false,
+    }
+}
+
+/// As `Instructions::execute`, of a word that stands decoded. Its fetch is still to be counted. Answers also whether the next word of the
+/// line follows.
 #[inline]
 fn execute_decoded<const EXTENSION: bool>(
     regs: &mut Regs,
     view: &mut View,
-    word: &Option<Instr>,
-) -> (Outcome, Course)
+    word: &Instr,
+) -> (Outcome, bool)
     requires ready { IsReadyView view.old }
     requires word { IsWordAt EXTENSION view.old regs.old.pc word.now }
     ensures ready { IsReadyView view.new }
@@ -57,20 +76,12 @@ fn execute_decoded<const EXTENSION: bool>(
     ensures made { (n : ℕ) → Makes n (n + 1) regs.old.pc
         (execution_by (table_of EXTENSION) regs.old (memory_of (spaces_lent view.old) view.old.space)).calls
         view.old (full_in result.0) view.new }
-    ensures line { result.0 ≡ Outcome.Stepped
-        → Keeps result.1 view.old view.new regs.old.pc regs.new.pc }
-    ensures on { result.1 ≡ Course.On → result.0 ≡ Outcome.Stepped }
+    ensures on { result.1 ≡ true → IsOn view.old view.new regs.old.pc regs.new.pc result.0 }
 {
-    let pc = regs.pc();
-    match word {
-        Some(i) => {
-            let action = Instructions::<EXTENSION>::action_on(i, regs);
-            let course = course_of(&action, pc);
-            let outcome = perform(action, i.rd, regs, view);
-            (outcome, course_behind(outcome, course))
-        }
-        None => (Outcome::Fault(FaultKind::Illegal, pc), Course::Elsewhere),
-    }
+    let action = Instructions::<EXTENSION>::action_on(word, regs);
+    let outcome = perform(action, word.rd, regs, view);
+    let on = goes_behind(outcome, &action, view.hand.known);
+    (outcome, on)
 }
 
 /// Faults a process, where that came of its instruction.
@@ -88,19 +99,20 @@ fn note(process: &mut Process, outcome: Outcome)
 }
 
 /// Executes the instruction at pc, whose word stands decoded, in the space that is lent, which is there. Its fetch is still to be counted.
+/// Answers what came of it, and whether the next word of the line follows.
 #[inline]
 fn execute_word<const EXTENSION: bool>(
     process: &mut Process,
     view: &mut View,
-    word: &Option<Instr>,
-) -> (Outcome, Course)
+    word: &Instr,
+) -> (Outcome, bool)
     requires runs { process.old.state ≡ ProcessState.Running }
     requires ready { IsReadyView view.old }
     requires word { IsWordAt EXTENSION view.old process.old.regs.pc word.now }
     ensures ready { IsReadyView view.new }
-    ensures line { result.0 ≡ Outcome.Stepped
-        → Keeps result.1 view.old view.new process.old.regs.pc process.new.regs.pc }
-    ensures on { result.1 ≡ Course.On → result.0 ≡ Outcome.Stepped }
+    ensures on { result.1 ≡ true
+        → IsOn view.old view.new process.old.regs.pc process.new.regs.pc result.0 }
+    ensures stays { StaysInHand view.old view.new }
     ensures loan { view.new.memory.ghost_name ≡ view.old.memory.ghost_name }
     ensures space { view.new.space ≡ view.old.space }
     ensures outcome { (n : ℕ) → result.0
@@ -110,9 +122,9 @@ fn execute_word<const EXTENSION: bool>(
     ensures saved { process.new.saved ≡ process.old.saved }
     ensures beside { IsBeside view.old.space (spaces_lent view.old) (spaces_lent view.new) }
 {
-    let (outcome, course) = execute_decoded::<EXTENSION>(&mut process.regs, view, word);
+    let (outcome, on) = execute_decoded::<EXTENSION>(&mut process.regs, view, word);
     note(process, outcome);
-    (outcome, course)
+    (outcome, on)
 }
 
 /// Executes the instruction at pc in the space that is lent, which is there, and has no line in hand then. Answers whether it was
@@ -122,7 +134,6 @@ fn execute_word<const EXTENSION: bool>(
 fn execute_apart<const EXTENSION: bool>(
     process: &mut Process,
     view: &mut View,
-    hand: &mut Hand,
     came: &mut Outcome,
 ) -> u32
     requires runs { process.old.state ≡ ProcessState.Running }
@@ -130,10 +141,10 @@ fn execute_apart<const EXTENSION: bool>(
     ensures loan { view.new.memory.ghost_name ≡ view.old.memory.ghost_name }
     ensures space { view.new.space ≡ view.old.space }
     ensures came { (stops : Addresses) (most : ℕ) → 0 < most → Comes stops view.old.space most
-        (guest_ahead hand.old.owed (guest_lent EXTENSION view.old process.old)) result came.new
-        (guest_ahead hand.new.owed (guest_lent EXTENSION view.new process.new)) }
-    ensures none { hand.new.known ≡ [] }
-    ensures owed { hand.new.owed ≡ hand.old.owed }
+        (guest_ahead view.old.hand.owed (guest_lent EXTENSION view.old process.old)) result came.new
+        (guest_ahead view.new.hand.owed (guest_lent EXTENSION view.new process.new)) }
+    ensures none { view.new.hand.known ≡ [] }
+    ensures owed { view.new.hand.owed ≡ view.old.hand.owed }
     ensures steps { result ≡ steps_in came.new }
     ensures running { came.new ≡ Outcome.Stepped → process.new.state ≡ ProcessState.Running }
     ensures ready { IsReadyView view.new }
@@ -141,7 +152,7 @@ fn execute_apart<const EXTENSION: bool>(
     ensures beside { IsBeside view.old.space (spaces_lent view.old) (spaces_lent view.new) }
 {
     let outcome = Instructions::<EXTENSION>::execute(&mut process.regs, view);
-    hand.lose();
+    view.hand.lose();
     note(process, outcome);
     *came = outcome;
     steps_in(outcome)
@@ -160,33 +171,45 @@ fn steps_in(outcome: Outcome) -> u32
     }
 }
 
-/// Whether the next word of the line in hand follows.
+/// As `execute_apart`, but that it answers what came of it, and says what is so of a run of some instructions.
 #[inline(always)]
-fn is_on(course: Course) -> bool
-    ensures { result ≡ true → course ≡ Course.On }
+fn apart<const EXTENSION: bool>(
+    process: &mut Process,
+    view: &mut View,
+    lines: &DecodedLines<Instructions<EXTENSION>>,
+    most: u32,
+    stops: Option<&Addresses>,
+) -> (u32, Outcome)
+    requires runs { process.old.state ≡ ProcessState.Running }
+    requires ready { IsReadyView view.old }
+    requires some { 0 < most }
+    ensures { HasRun EXTENSION (stops_in stops.entry) most lines.now
+        process.old process.new view.old view.new result.0 result.1 }
 {
-    match course {
-        Course::On => true,
-        Course::Elsewhere => false,
-        Course::Lost => false,
-    }
+    let mut came = Outcome::Stepped;
+    let n = execute_apart::<EXTENSION>(process, view, &mut came);
+    (n, came)
 }
 
-/// Ends a run behind so many steps and an instruction of which that came. Answers how many steps they are.
-#[inline]
-fn leave(hand: &mut Hand, k: u32, outcome: Outcome, course: Course) -> u32
+/// Ends a run behind so many steps and an instruction of which that came. Answers how many steps they are. That of a step, which is common,
+/// has a way of its own.
+#[inline(always)]
+fn leave(hand: &mut Hand, k: u32, outcome: Outcome) -> (u32, Outcome)
     requires few { hand.old.owed + k + 1 < 2 ^ 32 }
-    ensures steps { result ≡ k + steps_in outcome }
-    ensures owed { hand.new.owed ≡ hand.old.owed + (k + 1) }
-    ensures left { IsLeft course hand.old hand.new }
+    ensures steps { result.0 ≡ k + steps_in outcome }
+    ensures outcome { result.1 ≡ outcome }
+    ensures left { hand.new ≡ owing hand.old (k + 1) }
 {
-    hand.owed += k + 1;
-    match course {
-        Course::On => {}
-        Course::Elsewhere => {}
-        Course::Lost => hand.lose(),
+    match outcome {
+        Outcome::Stepped => {
+            hand.owed += k + 1;
+            (k + 1, Outcome::Stepped)
+        }
+        _ => {
+            hand.owed += k + 1;
+            (k, outcome)
+        }
     }
-    k + steps_in(outcome)
 }
 
 /// How many words of a line there are from an address on, at most so many, of which all but the first are at no stop.
@@ -205,88 +228,109 @@ fn count_from(stops: Option<&Addresses>, pc: u64, most: u32) -> u32
 }
 
 /// Executes up to so many instructions from a line in hand, of which the first is that at pc, one behind the other as long as each is
-/// a step and leaves the line in hand. Answers how many were steps, and what came of the last one. The last step may leave the pc
-/// at a stop, and no other one does. Fetches are still to be counted, one for each.
+/// a step and leaves the line in hand; or one, where its word doesn't stand decoded. Answers how many were steps, and what came of the
+/// last one. The last step may leave the pc at a stop, and no other one does. Fetches are still to be counted, at most one for each.
 #[inline]
 fn run<const EXTENSION: bool>(
     process: &mut Process,
     view: &mut View,
     lines: &DecodedLines<Instructions<EXTENSION>>,
-    hand: &mut Hand,
     most: u32,
     stops: Option<&Addresses>,
 ) -> (u32, Outcome)
     requires runs { process.old.state ≡ ProcessState.Running }
     requires ready { IsReadyView view.old }
-    requires taken { IsReached lines.now view.old.memory.now view.old.space hand.old
+    requires taken { IsReached lines.now view.old.memory.now view.old.space view.old.hand
         process.old.regs.pc }
     requires some { 0 < most }
-    requires few { hand.old.owed + most < 2 ^ 32 }
-    ensures loan { view.new.memory.ghost_name ≡ view.old.memory.ghost_name }
-    ensures space { view.new.space ≡ view.old.space }
-    ensures came { Comes (stops_in stops.entry) view.old.space most
-        (guest_ahead hand.old.owed (guest_lent EXTENSION view.old process.old)) result.0 result.1
-        (guest_ahead hand.new.owed (guest_lent EXTENSION view.new process.new)) }
-    ensures running { result.1 ≡ Outcome.Stepped → process.new.state ≡ ProcessState.Running }
-    ensures goes { result.1 ≡ Outcome.Stepped
-        → HoldsOn lines.now view.new hand.old.owed result.0 hand.new }
-    ensures saved { process.new.saved ≡ process.old.saved }
-    ensures beside { IsBeside view.old.space (spaces_lent view.old) (spaces_lent view.new) }
+    requires few { view.old.hand.owed + most < 2 ^ 32 }
+    ensures { HasRun EXTENSION (stops_in stops.entry) most lines.now
+        process.old process.new view.old view.new result.0 result.1 }
 {
     let pc = process.regs.pc();
     let words = lines.words_from(pc / 4);
+    if words.is_empty() {
+        return apart(process, view, lines, most, stops);
+    }
     let count = count_from(stops, pc, most.min(words.len() as u32));
     let mut rest = &words[..count as usize];
     'running: while !rest.is_empty() {
-        let (outcome, course) = execute_word::<EXTENSION>(process, view, &rest[0]);
-        if !is_on(course) {
-            let steps = leave(hand, count - rest.len() as u32, outcome, course);
-            return (steps, outcome);
+        let (outcome, on) = execute_word::<EXTENSION>(process, view, &rest[0]);
+        if !on {
+            return leave(&mut view.hand, count - rest.len() as u32, outcome);
         }
         rest = &rest[1..];
     }
-    hand.owed += count;
+    view.hand.owed += count;
     (count, Outcome::Stepped)
 }
 
-/// Executes some instructions, at most so many, as `run` does, where the line of the first one is in hand or can be taken, and else one. Answers how
-/// many were steps, and writes down what came of the last one, where it was none.
+/// Has the line of the instruction at pc in hand where its page is known, and has only to be brought to the front of its list. That is its
+/// fetch, which is made at once, in the place of one that is owed. Answers whether the line is in hand then.
+#[cold]
+#[inline(never)]
+fn bring<const EXTENSION: bool>(
+    process: &Process,
+    view: &mut View,
+    lines: &mut DecodedLines<Instructions<EXTENSION>>,
+) -> bool
+    requires ready { IsReadyView view.old }
+    ensures { HasReached EXTENSION lines.new process.now view.old view.new result }
+{
+    let pc = process.regs.pc();
+    if pc % 4 != 0 || view.hand.owed == 0 {
+        return false;
+    }
+    if !view.memory.bring_front(view.space, pc, Perms::X) {
+        return false;
+    }
+    view.hand.owed -= 1;
+    view.hand.lose();
+    view.hand.reach(&*view.memory, view.space, lines, pc)
+}
+
+/// Has the line of the instruction at pc in hand, where it is there, or can be taken or brought. Answers whether it has.
+#[inline(always)]
+fn reach<const EXTENSION: bool>(
+    process: &Process,
+    view: &mut View,
+    lines: &mut DecodedLines<Instructions<EXTENSION>>,
+) -> bool
+    requires ready { IsReadyView view.old }
+    requires hand { IsInHand lines.old view.old.memory.now view.old.space view.old.hand }
+    ensures { HasReached EXTENSION lines.new process.now view.old view.new result }
+{
+    if view
+        .hand
+        .reach(&*view.memory, view.space, lines, process.regs.pc())
+    {
+        return true;
+    }
+    bring(process, view, lines)
+}
+
+/// Executes some instructions, at most so many, as `run` does, where the line of the first one is in hand, or can be taken or brought, and else one. Answers how
+/// many were steps, and what came of the last one.
 #[inline]
 fn advance<const EXTENSION: bool>(
     process: &mut Process,
     view: &mut View,
     lines: &mut DecodedLines<Instructions<EXTENSION>>,
-    hand: &mut Hand,
     most: u32,
     stops: Option<&Addresses>,
-    came: &mut Outcome,
-) -> u32
+) -> (u32, Outcome)
     requires runs { process.old.state ≡ ProcessState.Running }
     requires ready { IsReadyView view.old }
-    requires hand { IsInHand lines.old view.old.memory.now view.old.space hand.old }
+    requires hand { IsInHand lines.old view.old.memory.now view.old.space view.old.hand }
     requires some { 0 < most }
-    requires step { came.old ≡ Outcome.Stepped }
-    requires few { hand.old.owed + most < 2 ^ 32 }
-    ensures loan { view.new.memory.ghost_name ≡ view.old.memory.ghost_name }
-    ensures space { view.new.space ≡ view.old.space }
-    ensures came { Comes (stops_in stops.entry) view.old.space most
-        (guest_ahead hand.old.owed (guest_lent EXTENSION view.old process.old)) result came.new
-        (guest_ahead hand.new.owed (guest_lent EXTENSION view.new process.new)) }
-    ensures running { came.new ≡ Outcome.Stepped → process.new.state ≡ ProcessState.Running }
-    ensures goes { came.new ≡ Outcome.Stepped
-        → HoldsOn lines.new view.new hand.old.owed result hand.new }
-    ensures saved { process.new.saved ≡ process.old.saved }
-    ensures beside { IsBeside view.old.space (spaces_lent view.old) (spaces_lent view.new) }
+    requires few { view.old.hand.owed + most < 2 ^ 32 }
+    ensures { HasRun EXTENSION (stops_in stops.entry) most lines.new
+        process.old process.new view.old view.new result.0 result.1 }
 {
-    if !hand.reach(&*view.memory, view.space, lines, process.regs.pc()) {
-        return execute_apart::<EXTENSION>(process, view, hand, came);
+    if reach(process, view, lines) {
+        return run(process, view, lines, most, stops);
     }
-    let (n, outcome) = run(process, view, lines, hand, most, stops);
-    match outcome {
-        Outcome::Stepped => {}
-        _ => *came = outcome,
-    }
-    n
+    apart(process, view, lines, most, stops)
 }
 
 /// Whether an address is among those at which executions stop.
@@ -307,37 +351,35 @@ fn step_owing<const EXTENSION: bool>(
     process: &mut Process,
     view: &mut View,
     lines: &mut DecodedLines<Instructions<EXTENSION>>,
-    hand: &mut Hand,
     most: u32,
     stops: Option<&Addresses>,
 ) -> (u32, Outcome)
     requires runs { process.old.state ≡ ProcessState.Running }
     requires ready { IsReadyView view.old }
-    requires hand { IsInHand lines.old view.old.memory.now view.old.space hand.old }
-    requires none { hand.old.owed ≡ 0 }
+    requires hand { IsInHand lines.old view.old.memory.now view.old.space view.old.hand }
+    requires none { view.old.hand.owed ≡ 0 }
     ensures loan { view.new.memory.ghost_name ≡ view.old.memory.ghost_name }
     ensures space { view.new.space ≡ view.old.space }
     ensures ends { EndsWith (executions (stops_in stops.entry) view.old.space most
         (guest_lent EXTENSION view.old process.old))
-        result.0 result.1 (guest_ahead hand.new.owed (guest_lent EXTENSION view.new process.new)) }
+        result.0 result.1 (guest_ahead view.new.hand.owed (guest_lent EXTENSION view.new process.new)) }
     ensures saved { process.new.saved ≡ process.old.saved }
     ensures beside { IsBeside view.old.space (spaces_lent view.old) (spaces_lent view.new) }
 {
-    let mut steps = 0u32;
-    let mut came = Outcome::Stepped;
-    'stepping: while steps < most {
-        let n = advance(process, view, lines, hand, most - steps, stops, &mut came);
-        match came {
+    let mut left = most;
+    'stepping: while left > 0 {
+        let (n, outcome) = advance(process, view, lines, left, stops);
+        match outcome {
             Outcome::Stepped => {
-                steps += n;
+                left -= n;
                 if is_stop(stops, process.regs.pc()) {
-                    return (steps, Outcome::Stepped);
+                    return (most - left, Outcome::Stepped);
                 }
             }
-            _ => return (steps + n, came),
+            _ => return (most - left + n, outcome),
         }
     }
-    (steps, Outcome::Stepped)
+    (most, Outcome::Stepped)
 }
 
 /// Executes up to so many instructions in space `p`, which is there, as long as each is a step and leaves the pc at no stop.
@@ -359,9 +401,12 @@ pub(crate) fn execute_up_to<const EXTENSION: bool>(
     ensures saved { process.new.saved ≡ process.old.saved }
     ensures beside { IsBeside p (state_of memory.old) (state_of memory.new) }
 {
-    let mut view = View { memory, space: p };
-    let mut hand = Hand::none();
-    let came = step_owing(process, &mut view, lines, &mut hand, most, stops);
-    hand.pay(&mut view);
+    let mut view = View {
+        memory,
+        space: p,
+        hand: Hand::none(),
+    };
+    let came = step_owing(process, &mut view, lines, most, stops);
+    view.pay();
     came
 }

@@ -6,12 +6,13 @@ use Rattle.std.specs.Option.{option_map}
 use Rattle.std.specs.FinMap.{get}
 use Rattle.std.proofs.lemmas.List.{get_or-set_other, get_or-set_same, length-set, take_all}
 use Rattle.number_maps.specs.Keys.{by_key}
-use Rattle.ovl_io.specs.Permissions.{executable, permits}
+use Rattle.ovl_io.specs.Permissions.{permits}
 use Rattle.ovl_io.specs.declared.perms.Perms.{Perms}
 use Rattle.ovl_io.specs.Memory.{bytes_at}
 use Rattle.overlay_memory.specs.Access.{IsFoundIn}
-use Rattle.overlay_memory.specs.Code.{IsCodeLine}
-use Rattle.overlay_memory.specs.Fronts.{AreFronts, AreSeen, IsClear, IsHead, head_of, held_of, seen_at, with_head}
+use Rattle.overlay_memory.specs.Code.{IsFrontLine}
+use Rattle.overlay_memory.specs.Epochs.{page_at, place_of}
+use Rattle.overlay_memory.specs.Fronts.{AreFronts, AreSeen, IsClear, IsHead, head_of, held_of, with_head}
 use Rattle.overlay_memory.specs.Pieces.{IsLacking, IsPermitted}
 use Rattle.overlay_memory.proofs.Counting.{allows_is}
 use Rattle.overlay_memory.proofs.Pieced.{found_piece}
@@ -20,7 +21,7 @@ use Rattle.overlay_memory.specs.PageLaws.{some_is}
 use Rattle.overlay_memory.specs.StateMemory.{memory_at}
 use Rattle.overlay_memory.specs.View.{AreTrue, cached_in, cached_page, cached_view}
 use Rattle.overlay_memory.specs.declared.fronts.Fronts.{Fronts}
-use Rattle.overlay_memory.specs.declared.fronts.TheConstants.{SEEN_PAGES}
+use Rattle.overlay_memory.specs.declared.epochs.TheConstants.{SEEN_PAGES}
 use Rattle.overlay_pages.specs.Spots.{FindsPage, IsBroughtTo, IsFoundAt, IsFoundPage, IsFoundPageAt}
 use Rattle.overlay_pages.specs.State.{PageState, State, memory_of, seen_page}
 use Rattle.overlay_pages.specs.View.{IsJoined, MemoryView, page_state, state_of}
@@ -86,20 +87,23 @@ filled_fronts old new t fronts table are = record {
 }
 
 -- A page is put in the place of those that were found: it is as the tables have it, and so are still those at other places.
-put_seen : (old new : LedgerView) (seen : List (Option FoundPage)) (p : ℕ) (result : Option FoundPage) → AreSeen old seen
-    → ((found : FoundPage) → result ≡ Some found → (found.page ≡ p) × IsFoundPage new found)
-    → ((found : FoundPage) → (found.page % SEEN_PAGES ≡ p % SEEN_PAGES → ⊥) → IsFoundPage old found → IsFoundPage new found)
-    → AreSeen new (slice_set seen (p % SEEN_PAGES) result)
-put_seen old new seen p result are here beside = record {
-  count = length-set seen (p % SEEN_PAGES) result ∙ are.count;
-  pages = λ place found at. by_key place (p % SEEN_PAGES)
+place_is : (s p : ℕ) (found : FoundPage) → found.space ≡ s → found.page ≡ p → place_of found.space found.page ≡ place_of s p
+place_is s p found ss pp = ap (λ n. place_of n found.page) ss ∙ ap (place_of s) pp
+
+put_seen : (old new : LedgerView) (seen : List (Option FoundPage)) (s p : ℕ) (result : Option FoundPage) → AreSeen old seen
+    → ((found : FoundPage) → result ≡ Some found → (found.space ≡ s) × (found.page ≡ p) × IsFoundPage new found)
+    → ((found : FoundPage) → (found.space ≡ s → found.page ≡ p → ⊥) → IsFoundPage old found → IsFoundPage new found)
+    → AreSeen new (slice_set seen (place_of s p) result)
+put_seen old new seen s p result are here beside = record {
+  count = length-set seen (place_of s p) result ∙ are.count;
+  pages = λ place found at. by_key place (place_of s p)
       (λ same.
-      let one = here found (sym (get_or-set_same seen (p % SEEN_PAGES) result None (omega (arith, are.count)))
-      ∙ ap (λ n. get_or (slice_set seen (p % SEEN_PAGES) result) n None) (sym same) ∙ at) in
-      (ap (λ n. n % SEEN_PAGES) one.0 ∙ sym same, one.1))
+      let one = here found (sym (get_or-set_same seen (place_of s p) result None (omega (arith, are.count)))
+      ∙ ap (λ n. get_or (slice_set seen (place_of s p) result) n None) (sym same) ∙ at) in
+      (place_is s p found one.0 one.1 ∙ sym same, one.2))
       (λ other.
-      let one = are.pages place found (sym (get_or-set_other seen (p % SEEN_PAGES) place result None other) ∙ at) in
-      (one.0, beside found (λ e. other (sym one.0 ∙ e)) one.1));
+      let one = are.pages place found (sym (get_or-set_other seen (place_of s p) place result None other) ∙ at) in
+      (one.0, beside found (λ ss pp. other (sym one.0 ∙ place_is s p found ss pp)) one.1));
 }
 
 -- What was found of a page.
@@ -139,24 +143,39 @@ module _ (view : MemoryView) (s p : ℕ) (found : FoundPage) (t : BareTranslatio
   pub known_found : IsFoundPageAt view s p found
   known_found = record { space_is = so.0; page_is = so.1; is = known_head.is }
 
+  pub known_at_front : IsFront s p t
+  known_at_front = subst (λ n. IsFront s n t) so.1 (subst (λ n. IsFront n found.page t) so.0 known_head.front)
+
   pub known_front : (u : BareTranslations) → u ≡ with_hits 1 t → IsFront found.space found.page u
   known_front u is = subst (IsFront found.space found.page) (sym is) (front_hits found.space found.page 1 t known_head.front)
 
   pub known_translated : (u : BareTranslations) → u ≡ with_hits 1 t → u ≡ translated s (memory_of (state_of view) s) p t
   known_translated u is =
-      is ∙ sym (translated_front s p (memory_of (state_of view) s) t (subst (λ n. IsFront s n t) so.1 (subst (λ n. IsFront n found.page t) so.0 known_head.front)))
+      is ∙ sym (translated_front s p (memory_of (state_of view) s) t known_at_front)
 
 -- A page that was found before is as the tables have it.
 pub seen_found : (view : MemoryView) (s p : ℕ) (found : FoundPage) (fronts : Fronts) → AreSeen view.table fronts.seen
-    → (found.space ≡ s) × (found.page ≡ p) × (seen_at fronts p ≡ Some found) → IsFoundPageAt view s p found
-seen_found view s p found fronts are so = record { space_is = so.0; page_is = so.1; is = (are.pages (p % SEEN_PAGES) found so.2).1 }
+    → (found.space ≡ s) × (found.page ≡ p) × (page_at fronts.seen s p ≡ Some found) → IsFoundPageAt view s p found
+seen_found view s p found fronts are so = record { space_is = so.0; page_is = so.1; is = (are.pages (place_of s p) found so.2).1 }
+
+-- A page that was found is found where it is, and what becomes of the lists where it is translated becomes of them where the one that was looked for is.
+pub found_itself : (view : MemoryView) (found : FoundPage) → IsFoundPage view.table found → IsFoundPageAt view found.space found.page found
+found_itself view found is = record { space_is = refl; page_is = refl; is = is }
+
+module _ (view : MemoryView) (s p : ℕ) (found : FoundPage) (t u : BareTranslations) (at : IsFoundPageAt view s p found) where
+  pub translated_there : u ≡ translated found.space (memory_of (state_of view) found.space) found.page t → u ≡ translated s (memory_of (state_of view) s) p t
+  translated_there is =
+      is ∙ ap (λ n. translated n (memory_of (state_of view) n) found.page t) at.space_is ∙ ap (λ n. translated s (memory_of (state_of view) s) n t) at.page_is
+
+  pub front_looked_for : IsFront found.space found.page u → IsFront s p u
+  front_looked_for front = subst (λ n. IsFront s n u) at.page_is (subst (λ n. IsFront n found.page u) at.space_is front)
 
 -- A page that was translated is at the front of its list.
 
 module _ (view : MemoryView) (s p : ℕ) (result : Option FoundPage) (t u : BareTranslations) (fronts : Fronts) (finds : FindsPage view s p result)
     (formed : IsFormed t) (is : u ≡ translated s (memory_of (state_of view) s) p t) (are : AreFronts view t fronts) where
   abbrev left : Fronts
-  left = with_head p result fronts
+  left = with_head s p result fronts
 
   here : (found : FoundPage) → result ≡ Some found → (found.page % SETS ≡ p % SETS) × IsHead view.table u found
   here found some =
@@ -195,8 +214,8 @@ module _ (view : MemoryView) (s p : ℕ) (result : Option FoundPage) (t u : Bare
         let one = here found (sym (get_or-set_same fronts.heads (p % SETS) result None (omega (arith, are.count))) ∙ ap (λ n. get_or left.heads n None) (sym same) ∙ at) in
         (one.0 ∙ sym same, one.1))
         (λ other. beside set found other (sym (get_or-set_other fronts.heads (p % SETS) set result None other) ∙ at));
-    seen = put_seen view.table view.table fronts.seen p result are.seen
-        (λ found some. let at : IsFoundPageAt view s p found = subst (FindsPage view s p) some finds in (at.page_is, at.is)) (λ found other is. is);
+    seen = put_seen view.table view.table fronts.seen s p result are.seen
+        (λ found some. let at : IsFoundPageAt view s p found = subst (FindsPage view s p) some finds in (at.space_is, at.page_is, at.is)) (λ found other is. is);
     tells = λ none. cc;
   }
 
@@ -232,25 +251,26 @@ module _ (view : MemoryView) (s address : ℕ) (page : FoundPage) (at : IsFoundP
   }
 
 -- A page at the front of its list may be known.
-pub found_fronts : (view : MemoryView) (t : BareTranslations) (fronts : Fronts) (found : FoundPage) (p : ℕ) → AreFronts view t fronts → IsFront found.space found.page t
-    → IsFoundPage view.table found → found.page ≡ p → AreFronts view t (with_head p (Some found) fronts)
-found_fronts view t fronts found p are front is p_is = record {
+pub found_fronts : (view : MemoryView) (t : BareTranslations) (fronts : Fronts) (found : FoundPage) (s p : ℕ) → AreFronts view t fronts → IsFront found.space found.page t
+    → IsFoundPageAt view s p found → AreFronts view t (with_head s p (Some found) fronts)
+found_fronts view t fronts found s p are front at = record {
   count = length-set fronts.heads (p % SETS) (Some found) ∙ are.count;
-  heads = λ set other at. by_key set (p % SETS)
+  heads = λ set other head. by_key set (p % SETS)
       (λ same.
       let one : found ≡ other = some_is found other
-      (sym (get_or-set_same fronts.heads (p % SETS) (Some found) None (omega (arith, are.count))) ∙ ap (λ n. get_or (slice_set fronts.heads (p % SETS) (Some found)) n None) (sym same) ∙ at) in
-      subst (λ (f : FoundPage). (f.page % SETS ≡ set) × IsHead view.table t f) one (ap (λ n. n % SETS) p_is ∙ sym same, record { is = is; front = front }))
-      (λ apart. are.heads set other (sym (get_or-set_other fronts.heads (p % SETS) set (Some found) None apart) ∙ at));
-  seen = put_seen view.table view.table fronts.seen p (Some found) are.seen
-      (λ other some. subst (λ (f : FoundPage). (f.page ≡ p) × IsFoundPage view.table f) (some_is found other some) (p_is, is)) (λ other apart there. there);
+      (sym (get_or-set_same fronts.heads (p % SETS) (Some found) None (omega (arith, are.count))) ∙ ap (λ n. get_or (slice_set fronts.heads (p % SETS) (Some found)) n None) (sym same) ∙ head) in
+      subst (λ (f : FoundPage). (f.page % SETS ≡ set) × IsHead view.table t f) one (ap (λ n. n % SETS) at.page_is ∙ sym same, record { is = at.is; front = front }))
+      (λ apart. are.heads set other (sym (get_or-set_other fronts.heads (p % SETS) set (Some found) None apart) ∙ head));
+  seen = put_seen view.table view.table fronts.seen s p (Some found) are.seen
+      (λ other some. subst (λ (f : FoundPage). (f.space ≡ s) × (f.page ≡ p) × IsFoundPage view.table f) (some_is found other some) (at.space_is, at.page_is, at.is))
+      (λ other apart there. there);
   tells = λ none. cc;
 }
 
 -- A line of it was brought: it stays at the front of its list.
-pub brought_fronts : (old new : MemoryView) (t : BareTranslations) (fronts : Fronts) (page found : FoundPage) (line p : ℕ) → AreFronts old t fronts → IsFront page.space page.page t
-    → IsBroughtTo old.table new.table page line found → found.page ≡ p → AreFronts new t (with_head p (Some found) fronts)
-brought_fronts old new t fronts page found line p are front to p_is = record {
+pub brought_fronts : (old new : MemoryView) (t : BareTranslations) (fronts : Fronts) (page found : FoundPage) (line s p : ℕ) → AreFronts old t fronts → IsFront page.space page.page t
+    → IsBroughtTo old.table new.table page line found → found.space ≡ s → found.page ≡ p → AreFronts new t (with_head s p (Some found) fronts)
+brought_fronts old new t fronts page found line s p are front to s_is p_is = record {
   count = length-set fronts.heads (p % SETS) (Some found) ∙ are.count;
   heads = λ set other at. by_key set (p % SETS)
       (λ same.
@@ -266,9 +286,9 @@ brought_fronts old new t fronts page found line p are front to p_is = record {
           front = head.1.front;
         },
       ));
-  seen = put_seen old.table new.table fronts.seen p (Some found) are.seen
-      (λ other some. subst (λ (f : FoundPage). (f.page ≡ p) × IsFoundPage new.table f) (some_is found other some) (p_is, to.is))
-      (λ other apart is. to.others other (λ ss pp. apart (ap (λ n. n % SEEN_PAGES) (pp ∙ sym to.page_is ∙ p_is))) is);
+  seen = put_seen old.table new.table fronts.seen s p (Some found) are.seen
+      (λ other some. subst (λ (f : FoundPage). (f.space ≡ s) × (f.page ≡ p) × IsFoundPage new.table f) (some_is found other some) (s_is, p_is, to.is))
+      (λ other apart is. to.others other (λ ss pp. apart (ss ∙ sym to.space_is ∙ s_is) (pp ∙ sym to.page_is ∙ p_is)) is);
   tells = λ none. cc;
 }
 
@@ -303,14 +323,15 @@ module _ (view : MemoryView) (s address line : ℕ) (page : FoundPage) (found : 
   of_line P holds =
       subst (λ n. P n found.page found.line) (sym line_there.space_is) (subst (λ n. P s n found.line) (sym line_there.page_is) (subst (P s (address / PAGE_BYTES)) (sym line_there.line_is) holds))
 
-  -- and may be fetched from
-  pub code_there : (held : Translations Cached) (bytes : List ℕ) → permits page.perms.0 executable ≡ true → IsFront page.space page.page (bare held)
+  -- and may be used so
+  pub front_there : (held : Translations Cached) (need : ℕ) (bytes : List ℕ) → permits page.perms.0 need ≡ true → IsFront page.space page.page (bare held)
       → option_map (λ (x : PageState). line_in_page x.lines found.line) (page_in (state_of view) found.space found.page) ≡ Some bytes → length bytes ≡ LINE_BYTES
-      → IsCodeLine (cached_view view held) s address bytes
-  code_there held bytes may front value long = record {
-    may = sym (allows_is (state_of view) s (address / PAGE_BYTES) no_translations (held_of page) executable
+      → IsFrontLine (cached_view view held) s need address bytes
+  front_there held need bytes may front value long = record {
+    may = sym (allows_is (state_of view) s (address / PAGE_BYTES) no_translations (held_of page) need
         (sym (held_there view s (address / PAGE_BYTES) page at))) ∙ may;
     front = subst (λ n. IsFront s n (bare held)) at.page_is (subst (λ n. IsFront n page.page (bare held)) at.space_is front);
     bytes = line_bytes view address found bytes line_found value long
         ∙ ap (λ q. bytes_at (memory_of (state_of view) q) (LINE_BYTES * (address / LINE_BYTES)) LINE_BYTES) line_space;
+    long = long;
   }

@@ -14,6 +14,7 @@ pub mod InOne
 pub mod InTwo
 pub mod Truths
 pub mod Counting
+pub mod Forgetting
 pub mod Fronting
 pub mod Noting
 pub mod Compared

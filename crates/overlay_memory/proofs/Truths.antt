@@ -515,6 +515,14 @@ stored_translated old new s address bytes (Err (Unmapped at)) t stores entries a
 stored_translated old new s address bytes (Err (Forbidden at)) t stores entries apart small = refused_translated old new t stores.1 entries apart small
 stored_translated old new s address bytes (Err (Full needed limit)) t stores entries apart small = refused_translated old new t stores.1.kept entries apart small
 
+-- the same where it was done, and where nothing was
+pub tried_translated : (old new : MemoryView) (s address : ℕ) (bytes : List ℕ) (done : Bool) (t : Translations Cached)
+    → (done ≡ true → Stores old new s address bytes (Ok tt)) → (done ≡ false → new ≡ old)
+    → AreTrue (seen.state_of new) t → AwaitApart (seen.state_of old) → AreOverlaysSmall (seen.state_of old) → AreTranslated (seen.state_of new) t
+tried_translated old new s address bytes true t stores kept entries apart small =
+    stored_translated old new s address bytes (Ok tt) t (stores refl) entries apart small
+tried_translated old new s address bytes false t stores kept entries apart small = refused_translated old new t (kept refl) entries apart small
+
 -- of a space that isn't there no page has an entry
 pub nothing_seen : (state : State) (s : ℕ) (t : Translations Cached) → holds_space state s ≡ false → AreTranslated state t → (page : ℕ) → found s page t ≡ None
 nothing_seen state s t absent all page = by_found (found s page t) refl

@@ -1,6 +1,7 @@
 use Rattle.std.specs.Prelude.{◌≡◌, ℕ, ◌%◌, List, length, replicate, slice_index_or, slice_set, Option, Some, None, true, false}
 use Rattle.overlay_memory.specs.declared.fronts.Fronts.{Fronts}
-use Rattle.overlay_memory.specs.declared.fronts.TheConstants.{SEEN_PAGES}
+use Rattle.overlay_memory.specs.declared.epochs.TheConstants.{SEEN_PAGES}
+use Rattle.overlay_memory.specs.Epochs.{place_of}
 use Rattle.overlay_pages.specs.Spots.{IsFoundPage}
 use Rattle.overlay_pages.specs.View.{MemoryView}
 use Rattle.overlay_pages.specs.declared.spots.FoundPage.{FoundPage}
@@ -24,15 +25,11 @@ TellsNone fronts = fronts.any ≡ false → IsClear fronts
 abbrev pub head_of : Fronts → ℕ → Option FoundPage
 head_of fronts page = slice_index_or fronts.heads (page % SETS) None
 
--- what is known at the place of a page, of those that were found before
-abbrev pub seen_at : Fronts → ℕ → Option FoundPage
-seen_at fronts page = slice_index_or fronts.seen (page % SEEN_PAGES) None
-
 -- another page is at the front of its list, and was found
-abbrev pub with_head : ℕ → Option FoundPage → Fronts → Fronts
-with_head page found fronts = record {
+abbrev pub with_head : ℕ → ℕ → Option FoundPage → Fronts → Fronts
+with_head space page found fronts = record {
   heads = slice_set fronts.heads (page % SETS) found;
-  seen = slice_set fronts.seen (page % SEEN_PAGES) found;
+  seen = slice_set fronts.seen (place_of space page) found;
   any = true;
 }
 
@@ -48,7 +45,7 @@ pub record IsHead (table : LedgerView) (t : BareTranslations) (found : FoundPage
 -- a page that was found is as the tables have it, wherever it is in its list
 pub record AreSeen (table : LedgerView) (seen : List (Option FoundPage)) : Type 0 where
   pub count : length seen ≡ SEEN_PAGES
-  pub pages : (place : ℕ) (found : FoundPage) → slice_index_or seen place None ≡ Some found → (found.page % SEEN_PAGES ≡ place) × IsFoundPage table found
+  pub pages : (place : ℕ) (found : FoundPage) → slice_index_or seen place None ≡ Some found → (place_of found.space found.page ≡ place) × IsFoundPage table found
 
 pub record AreFronts (view : MemoryView) (t : BareTranslations) (fronts : Fronts) : Type 0 where
   pub count : length fronts.heads ≡ SETS

@@ -6,6 +6,7 @@ pub mod Codes
 pub mod Translated
 pub mod Room
 pub mod Access
+pub mod Epochs
 pub mod Fronts
 pub mod Pieces
 pub mod Rebased

@@ -1,22 +1,21 @@
 //! What is known of pages, as the tables have them: of each list of translations the page at its front, and pages that were found before.
 
-ghost use Rattle.std.specs.Prelude.{◌≡◌, ◌%◌, ◌<◌, IfSome, Some};
-ghost use Rattle.overlay_memory.specs.Fronts.{IsClear, TellsNone, head_of, seen_at, with_head};
-ghost use Rattle.overlay_memory.specs.declared.fronts.TheConstants.{SEEN_PAGES};
+ghost use Rattle.std.specs.Prelude.{◌≡◌, ◌%◌, ◌<◌, IfOk, IfSome, Some};
+ghost use Rattle.overlay_memory.specs.Epochs.{page_at};
+ghost use Rattle.overlay_memory.specs.Fronts.{IsClear, TellsNone, head_of, with_head};
 ghost use Rattle.translation_cache.specs.declared.TheConstants.{SETS};
 
+use crate::epochs::{SeenPages, if_same};
 use overlay_pages::FoundPage;
+use std::alloc::{AllocError, Global};
 use translation_cache::SETS;
-
-/// How many pages are known of those that were found, a place for each remainder of their numbers: as many as translations are kept.
-pub(crate) const SEEN_PAGES: usize = 64;
 
 /// What is known of pages at the front of their lists, and of others. It changes no answer, and no count: an access to the first looks at
 /// no table, and one to the others at their list alone.
 #[derive(Drop)]
 pub(crate) struct Fronts {
     heads: [Option<FoundPage>; SETS],
-    seen: [Option<FoundPage>; SEEN_PAGES],
+    seen: SeenPages,
     // false only where nothing is known, so that what is forgotten a page at a time is cleared once
     any: bool,
 }
@@ -30,43 +29,17 @@ fn set_of(page: u64) -> usize
     (page % SETS as u64) as usize
 }
 
-/// The place of a page among those that were found.
-#[inline(always)]
-fn place_of(page: u64) -> usize
-    ensures place { result ≡ page % SEEN_PAGES }
-    ensures inside { result < SEEN_PAGES }
-{
-    (page % SEEN_PAGES as u64) as usize
-}
-
-/// A page, where it is that of this number and space.
-#[inline(always)]
-fn if_same(known: &Option<FoundPage>, space: u16, page: u64) -> Option<&FoundPage>
-    ensures { IfSome result (λ found. (found.now.space ≡ space) × (found.now.page ≡ page)
-        × (known.now ≡ Some found.now)) }
-{
-    match known {
-        Some(found) => {
-            if found.page == page && found.space == space {
-                Some(found)
-            } else {
-                None
-            }
-        }
-        None => None,
-    }
-}
-
 impl Fronts {
-    /// Nothing is known.
-    pub(crate) fn new() -> Fronts
-        ensures { IsClear result }
+    /// Nothing is known. Takes all the memory that it ever needs, or answers the want of it.
+    pub(crate) fn new(alloc: Global) -> Result<Fronts, AllocError>
+        ensures { IfOk result (λ made. IsClear made) }
     {
-        Fronts {
+        let seen = SeenPages::new(alloc)?;
+        Ok(Fronts {
             heads: [None; SETS],
-            seen: [None; SEEN_PAGES],
+            seen,
             any: false,
-        }
+        })
     }
 
     /// Forgets all pages.
@@ -86,7 +59,7 @@ impl Fronts {
         ensures { IsClear self.new }
     {
         self.heads.fill(None);
-        self.seen.fill(None);
+        self.seen.clear();
         self.any = false;
     }
 
@@ -103,14 +76,14 @@ impl Fronts {
     #[inline(always)]
     pub(crate) fn seen(&self, space: u16, page: u64) -> Option<&FoundPage>
         ensures { IfSome result (λ found. (found.now.space ≡ space) × (found.now.page ≡ page)
-            × (seen_at self.now page ≡ Some found.now)) }
+            × (page_at self.now.seen space page ≡ Some found.now)) }
     {
-        if_same(&self.seen[place_of(page)], space, page)
+        self.seen.page(space, page)
     }
 
     /// Puts what was found of a page, which is at the front of its list now.
-    pub(crate) fn put(&mut self, page: u64, found: Option<FoundPage>)
-        ensures { self.new ≡ with_head page found self.old }
+    pub(crate) fn put(&mut self, space: u16, page: u64, found: Option<FoundPage>)
+        ensures { self.new ≡ with_head space page found self.old }
     {
         // it is copied, so that both have it
         let seen = match &found {
@@ -118,7 +91,7 @@ impl Fronts {
             None => None,
         };
         self.heads[set_of(page)] = found;
-        self.seen[place_of(page)] = seen;
+        self.seen.put(space, page, seen);
         self.any = true;
     }
 }

@@ -6,6 +6,7 @@
 //! their entries hold.
 //!
 //! - `comparing`: pages that are compared line by line
+//! - `epochs`: pages that were found before, and are forgotten in one step
 //! - `error`: why a call isn't done
 //! - `fronts`: pages at the front of their lists of translations
 //! - `memory`: the public type
@@ -18,6 +19,7 @@
 #![tactic(auto)]
 
 mod comparing;
+mod epochs;
 mod error;
 mod fronts;
 mod memory;
@@ -31,4 +33,5 @@ mod translating;
 pub use error::{MemoryError, Shortage, SpaceError};
 pub use memory::OverlayMemory;
 pub use overlay_pages::{FoundPage, LARGE_LINES, MOST_OWN};
+pub use reading::is_in_line;
 pub use space_ledger::class_of;

@@ -1,11 +1,12 @@
 //! The memories of all spaces.
 
-ghost use Rattle.std.specs.Prelude.{◌≡◌, ◌≢◌, ℕ, ◌+◌, ◌*◌, ◌<◌, ◌≤◌, List, IfOk, IfSome, IsSome, OnOk, OnErr, None, true, false, length};
+ghost use Rattle.std.specs.Prelude.{◌≡◌, ◌≢◌, ℕ, ◌+◌, ◌*◌, ◌/◌, ◌%◌, ◌<◌, ◌≤◌, List, IfOk, IfSome, IsSome, OnOk, OnErr, Ok, None, true, false, length};
 ghost use Rattle.std.specs.Borrow.{Lends, sem, Array, u8 as byte};
 ghost use Rattle.std.specs.FinMap as map;
 ghost use Rattle.std.specs.Option.{is_some, option_map};
 ghost use Rattle.sizes.specs.declared.TheConstants.{LAST_SPACE, LINE_BYTES, MOST_FRAMES, MOST_SPACE_PAGES, MOST_UNITS, PAGE_BYTES, PAGE_END, PAGE_LINES};
 ghost use Rattle.ovl_io.specs.Memory.{bytes_at};
+ghost use Rattle.ovl_io.specs.PageBytes.{page_allows};
 ghost use Rattle.ovl_io.specs.Permissions.{writable};
 ghost use Rattle.ledger.specs.Ledger.{is_alone};
 ghost use Rattle.ledger.specs.LargeLaws.{NoneLarge};
@@ -21,13 +22,15 @@ ghost use Rattle.overlay_pages.specs.View.{HasOwnPlace, IsJoined, place_at};
 ghost use Rattle.overlay_pages.specs.Calls.{AreMapped, AreShared, AreZeros, AwaitBare, AwaitsLike, HasSettledBlocks, IsEmptyState, IsNextPage, KeepsWholeBlocks, MovesFewBeside, NoneAwaitsBelow, entries_in};
 ghost use Rattle.overlay_memory.specs.ApartLaws.{ArePagesApart};
 ghost use Rattle.overlay_memory.specs.Access.{FitsStored, IsFirstAbsent, IsStored, Places, Reads, Stores, line_address};
-ghost use Rattle.overlay_memory.specs.Code.{IsCodeLine};
+ghost use Rattle.overlay_memory.specs.Code.{IsFrontLine};
 ghost use Rattle.overlay_memory.specs.Pieces.{emptied_space};
 ghost use Rattle.overlay_memory.specs.Rebased.{CanCompare, CanRebase, HasRebased, RebasesAlike};
 ghost use Rattle.overlay_memory.specs.Room.{FallsShort};
 ghost use Rattle.overlay_memory.specs.Translated.{access_at, after_access};
 ghost use Rattle.overlay_memory.specs.View.{AreOverlaysSmall, AreTrue, NoneAwaits, state_of, translations_of, with_region_line};
 ghost use Rattle.translation_cache.specs.Bare.{bare};
+ghost use Rattle.translation_cache.specs.Counted.{translated};
+ghost use Rattle.translation_cache.specs.CountedLaws.{IsFront};
 ghost use Rattle.translation_cache.specs.Formed.{IsFormed};
 ghost use Rattle.translation_cache.specs.Translations.{flushed, no_translations, with_hits};
 ghost use Rattle.overlay_pages.specs.declared.settling.TheConstants.{MOST_OWN};
@@ -39,8 +42,8 @@ use crate::fronts::Fronts;
 use crate::reading::{is_in_line, line_of, load_line, read_bytes};
 use crate::removing::{remove_pages, unmap_pages};
 use crate::room::{shortage_by, shortage_of};
-use crate::storing::{put_line, store_line, write_pages};
-use crate::translating::translate_access;
+use crate::storing::{put_line, store_front, store_line, write_pages};
+use crate::translating::{bring_found, translate_access};
 use bitflags::Flags;
 use overlay_bits::Bits;
 use overlay_pages::{FoundPage, MOST_OWN, OverlayPages};
@@ -87,7 +90,7 @@ impl OverlayMemory {
         ensures translations { IfOk result (λ made. translations_of made ≡ no_translations) }
     {
         let pages = OverlayPages::new(alloc, frames)?;
-        let fronts = Fronts::new();
+        let fronts = Fronts::new(alloc)?;
         let cache = Cache::new();
         Ok(OverlayMemory {
             pages,
@@ -275,7 +278,7 @@ impl OverlayMemory {
 
     /// Fills `into` with the bytes from an address on, for which each page needs the permission: X for a fetch, R for a load.
     /// Unmapped or Forbidden exactly at the first byte whose page isn't there or lacks it; Full never.
-    #[inline(always)]
+    #[inline]
     pub fn load(
         &mut self,
         space: u16,
@@ -316,21 +319,47 @@ impl OverlayMemory {
         read_bytes(&self.pages, space, address, into, need)
     }
 
-    /// The line with the byte at an address, where its page may be executed and is known to be at the front of its list. None says
+    /// The line with the byte at an address, where its page may be used so and is known to be at the front of its list. None says
     /// nothing. It counts nothing, and costs a few steps.
-    #[inline]
-    pub fn code_line(&self, space: u16, address: u64) -> Option<&[u8; 64]>
-        ensures { IfSome result (λ line. IsCodeLine self.now space address line.now) }
+    #[inline(always)]
+    pub fn front_line(&self, space: u16, address: u64, need: Perms) -> Option<&[u8; 64]>
+        ensures { IfSome result (λ line. IsFrontLine self.now space need.0 address line.now) }
     {
         match self.fronts.page(space, address / PAGE_BYTES as u64) {
             Some(page) => {
-                if page.perms.contains(Perms::X) {
+                if page.perms.contains(need) {
                     Some(self.pages.line_at(page.line(line_of(address))))
                 } else {
                     None
                 }
             }
             None => None,
+        }
+    }
+
+    /// Brings a page that is known since it was found to the front of its list, as an access to it does, where it may be used so.
+    /// Answers whether it did; where not, nothing has changed. Costs what a look in its list costs.
+    pub fn bring_front(&mut self, space: u16, address: u64, need: Perms) -> bool
+        ensures same { self.new.pages ≡ self.old.pages }
+        ensures may { result ≡ true → page_allows (memory_of (state_of self.old) space) need.0
+            (address / PAGE_BYTES) ≡ true }
+        ensures front { result ≡ true
+            → IsFront space (address / PAGE_BYTES) (translations_of self.new) }
+        ensures translations { result ≡ true → translations_of self.new
+            ≡ translated space (memory_of (state_of self.old) space) (address / PAGE_BYTES)
+            (translations_of self.old) }
+        ensures kept { result ≡ false → self.new ≡ self.old }
+    {
+        match self.fronts.seen(space, address / PAGE_BYTES as u64) {
+            Some(known) => {
+                let found = *known;
+                if !found.perms.contains(need) {
+                    return false;
+                }
+                bring_found(&self.pages, &mut self.cache, &mut self.fronts, &found);
+                true
+            }
+            None => false,
         }
     }
 
@@ -343,8 +372,42 @@ impl OverlayMemory {
         self.cache.count_hits(n);
     }
 
-    /// As `write`, for an instruction.
+    /// Counts one access to a page that is at the front of its list.
     #[inline(always)]
+    pub fn count_front(&mut self)
+        ensures same { self.new.pages ≡ self.old.pages }
+        ensures translations { translations_of self.new ≡ with_hits 1 (translations_of self.old) }
+    {
+        self.cache.count_hit();
+    }
+
+    /// As `store`, of bytes in one line, where that can be written where it stands and its page is known to be at the front of its list.
+    /// Answers whether it was done; where not, nothing has changed. Costs a few steps.
+    #[inline(always)]
+    pub fn store_front(&mut self, space: u16, address: u64, bytes: &[u8]) -> bool
+        requires some { 0 < length bytes.now }
+        requires one_line { address % LINE_BYTES + length bytes.now ≤ LINE_BYTES }
+        ensures stores { result ≡ true
+            → Stores self.old.pages self.new.pages space address bytes.now (Ok tt) }
+        ensures front { result ≡ true
+            → IsFront space (address / PAGE_BYTES) (translations_of self.old) }
+        ensures translations { result ≡ true
+            → translations_of self.new ≡ with_hits 1 (translations_of self.old) }
+        ensures kept { result ≡ false → self.new ≡ self.old }
+        ensures small { AreOverlaysSmall (state_of self.new) }
+    {
+        store_front(
+            &mut self.pages,
+            &mut self.cache,
+            &self.fronts,
+            space,
+            address,
+            bytes,
+        )
+    }
+
+    /// As `write`, for an instruction.
+    #[inline]
     pub fn store(&mut self, space: u16, address: u64, bytes: &[u8]) -> Result<(), MemoryError>
         requires there { holds_space (state_of self.old) space ≡ true }
         requires none_awaits { NoneAwaits (state_of self.old) space }

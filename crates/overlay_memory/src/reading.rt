@@ -32,7 +32,7 @@ pub(crate) fn line_of(address: u64) -> u8
 
 /// Whether some bytes from an address on all lie in one line.
 #[inline(always)]
-pub(crate) fn is_in_line(address: u64, count: usize) -> bool
+pub fn is_in_line(address: u64, count: usize) -> bool
     ensures { result ≡ true → (0 < count) × (address % LINE_BYTES + count ≤ LINE_BYTES) }
 {
     0 < count && count <= LINE_BYTES - (address % LINE_BYTES as u64) as usize

@@ -1,6 +1,6 @@
 //! Bytes into the lines of pages, and what a store needs first.
 
-ghost use Rattle.std.specs.Prelude.{◌≡◌, ◌+◌, ◌-◌, ◌*◌, ◌/◌, ◌%◌, ◌<◌, ◌≤◌, IfSome, IsSome, OnErr, length, true, false};
+ghost use Rattle.std.specs.Prelude.{◌≡◌, ◌+◌, ◌-◌, ◌*◌, ◌/◌, ◌%◌, ◌<◌, ◌≤◌, IfSome, IsSome, Ok, OnErr, length, true, false};
 ghost use Rattle.sizes.specs.declared.TheConstants.{LINE_BYTES, PAGE_BYTES, PAGE_LINES};
 ghost use Rattle.ovl_io.specs.Permissions.{permits, writable};
 ghost use Rattle.overlay_pages.specs.Changes.{is_writable};
@@ -16,6 +16,8 @@ ghost use Rattle.space_maps.specs.Spaces.{page_in, space_in};
 ghost use Rattle.translation_cache.specs.Bare.{bare};
 ghost use Rattle.translation_cache.specs.Counted.{translated};
 ghost use Rattle.translation_cache.specs.CountedLaws.{IsFront};
+ghost use Rattle.translation_cache.specs.Translations.{Translations, with_hits};
+ghost use Rattle.translation_cache.specs.declared.cached.Cached.{Cached};
 
 use crate::error::{Came, MemoryError, came_of};
 use crate::fronts::Fronts;
@@ -430,11 +432,11 @@ fn store_brought(
         fronts.clear();
         let lines = lines_at((address % PAGE_BYTES as u64) as usize, bytes.len());
         let settled = put_in_found(pages, cache, space, &page, address, lines, bytes);
-        fronts.put(number, Some(settled));
+        fronts.put(space, number, Some(settled));
         return Came::Done;
     }
     match put_brought(pages, cache, space, page, address, bytes) {
-        Some(found) => fronts.put(number, Some(found)),
+        Some(found) => fronts.put(space, number, Some(found)),
         None => fronts.clear(),
     }
     Came::Done
@@ -478,6 +480,73 @@ fn store_apart(
     came_of(write_in_page(pages, cache, space, address, bytes))
 }
 
+/// Puts bytes, some and all in one line of a page that was found, where it may be written and that line can be where it stands. Answers
+/// whether that was done.
+#[inline(always)]
+fn put_where_it_stands(
+    pages: &mut OverlayPages,
+    space: u16,
+    page: &FoundPage,
+    address: u64,
+    bytes: &[u8],
+) -> bool
+    requires found { IsFoundPageAt pages.old space (address / PAGE_BYTES) page.now }
+    requires some { 0 < length bytes.now }
+    requires one_line { address % LINE_BYTES + length bytes.now ≤ LINE_BYTES }
+    requires small { AreOverlaysSmall (state_of pages.old) }
+    ensures stores { result ≡ true → Stores pages.old pages.new space address bytes.now (Ok tt) }
+    ensures entries { (t : Translations Cached) → AreTrue (state_of pages.old) t
+        → AreTrue (state_of pages.new) t }
+    ensures table { pages.new.table ≡ pages.old.table }
+    ensures kept { result ≡ false → pages.new ≡ pages.old }
+{
+    let line = line_of(address);
+    if page.perms.contains(Perms::W) && page.is_writable(line) {
+        put(
+            pages,
+            page.line(line),
+            (address % LINE_BYTES as u64) as usize,
+            bytes,
+        );
+        return true;
+    }
+    false
+}
+
+/// As `store_front` of `OverlayMemory`.
+#[inline(always)]
+pub(crate) fn store_front(
+    pages: &mut OverlayPages,
+    cache: &mut Cache,
+    fronts: &Fronts,
+    space: u16,
+    address: u64,
+    bytes: &[u8],
+) -> bool
+    requires some { 0 < length bytes.now }
+    requires one_line { address % LINE_BYTES + length bytes.now ≤ LINE_BYTES }
+    requires held { AreTrue (state_of pages.old) cache.old }
+    requires fronts { AreFronts pages.old (bare cache.old) fronts.now }
+    requires small { AreOverlaysSmall (state_of pages.old) }
+    ensures stores { result ≡ true → Stores pages.old pages.new space address bytes.now (Ok tt) }
+    ensures front { result ≡ true → IsFront space (address / PAGE_BYTES) (bare cache.old) }
+    ensures hits { result ≡ true → bare cache.new ≡ with_hits 1 (bare cache.old) }
+    ensures kept { result ≡ false → (pages.new ≡ pages.old) × (cache.new ≡ cache.old) }
+    ensures held { AreTrue (state_of pages.new) cache.new }
+    ensures fronts { AreFronts pages.new (bare cache.new) fronts.now }
+{
+    match fronts.page(space, address / PAGE_BYTES as u64) {
+        Some(page) => {
+            if put_where_it_stands(pages, space, page, address, bytes) {
+                cache.count_hit();
+                return true;
+            }
+            false
+        }
+        None => false,
+    }
+}
+
 /// Stores bytes, some and all in one line of a page that was found. Where that can be written it takes no units.
 #[inline(always)]
 fn store_found(
@@ -501,14 +570,7 @@ fn store_found(
     ensures lists { bare cache.new ≡ bare cache.old }
     ensures fronts { AreFronts pages.new (bare cache.new) fronts.new }
 {
-    let line = line_of(address);
-    if page.perms.contains(Perms::W) && page.is_writable(line) {
-        put(
-            pages,
-            page.line(line),
-            (address % LINE_BYTES as u64) as usize,
-            bytes,
-        );
+    if put_where_it_stands(pages, space, &page, address, bytes) {
         return Came::Done;
     }
     store_apart(pages, cache, fronts, space, address, bytes)

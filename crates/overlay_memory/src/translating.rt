@@ -70,16 +70,35 @@ pub(crate) fn translate_anew(
 {
     match find_page(pages, fronts, space, page) {
         Some(found) => {
-            look_up(pages, cache, space, page, cached_of(&found));
-            fronts.put(page, Some(found));
+            bring_found(pages, cache, fronts, &found);
             Some(found)
         }
         None => {
             look_in_vain(pages, cache, space, page);
-            fronts.put(page, None);
+            fronts.put(space, page, None);
             None
         }
     }
+}
+
+/// Translates a page that was found, which then is known to be at the front of its list.
+pub(crate) fn bring_found(
+    pages: &OverlayPages,
+    cache: &mut Cache,
+    fronts: &mut Fronts,
+    found: &FoundPage,
+)
+    requires found { IsFoundPage pages.now.table found.now }
+    requires held { AreTrue (state_of pages.now) cache.old }
+    requires fronts { AreFronts pages.now (bare cache.old) fronts.old }
+    ensures front { IsFront found.now.space found.now.page (bare cache.new) }
+    ensures translated { bare cache.new ≡ translated found.now.space
+        (memory_of (state_of pages.now) found.now.space) found.now.page (bare cache.old) }
+    ensures held { AreTrue (state_of pages.now) cache.new }
+    ensures fronts { AreFronts pages.now (bare cache.new) fronts.new }
+{
+    look_up(pages, cache, found.space, found.page, cached_of(found));
+    fronts.put(found.space, found.page, Some(*found));
 }
 
 /// Counts the look-up of a page that is there, and enters what is there to be held of it where its entry isn't there.

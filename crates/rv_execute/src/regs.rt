@@ -65,9 +65,9 @@ impl Regs {
         requires { i < 32 }
         ensures { self.new ≡ with_register self.old i v }
     {
-        if i != 0 {
-            self.x[i as usize] = v;
-        }
+        // without a test, which costs more than the store that puts x0 right
+        self.x[i as usize] = v;
+        self.x[0] = 0;
     }
 
     /// x0 to x31 in their order, of which x0 is 0.

@@ -1,8 +1,6 @@
-use Rattle.std.proofs.Common.{◌≡◌, set, ℕ, suc, ◌+◌, ◌-◌, ◌<◌, Bool, true, false, cond, ◌&&◌, List, [], ◌∷◌, ◌++◌, length, take, drop, get_or, Some, None, sym, ap, ◌∙◌, refl, arith, eq-eqb, length-append, length-take-le, drop-cons, take-append-drop}
-use Rattle.std.specs.List.{insert, remove}
+use Rattle.std.proofs.Common.{◌≡◌, set, ℕ, zero, suc, ◌+◌, ◌<◌, Bool, true, false, cond, ◌&&◌, List, [], ◌∷◌, ◌++◌, length, take, drop, get_or, Some, None, sym, ap, ◌∙◌, refl, arith, eq-eqb, length-append, length-take-le, drop-cons, take-append-drop}
 use Rattle.std.proofs.Math.Seq.{get_or-append_seam, take-append_seam}
 use Rattle.std.proofs.lemmas.List.{length-set, take_more}
-use Rattle.std.proofs.lemmas.List.Edits.{remove-append_right}
 use Rattle.std.specs.List.{refill}
 use Rattle.translation_cache.specs.Translations.{Entry, changed, entry_of, found_in, is_of, raised, raised_by, without}
 use Rattle.translation_cache.specs.Cuts.{IsPlace}
@@ -77,11 +75,16 @@ module _ {A : Type 0} where
   pub within_place : (space page : ℕ) (es : List (Entry A)) (at : ℕ) → IsPlace space page es at → at < length es
   within_place space page es at p = omega (arith, ap length p.cut, length-append p.front (p.entry ∷ p.back), p.behind)
 
-  pub remove_place : (space page : ℕ) (es : List (Entry A)) (at : ℕ) → (p : IsPlace space page es at) → remove es at ≡ p.front ++ p.back
-  remove_place space page es at p =
-      let none : at - at ≡ 0 = omega arith in
-      ap (λ xs. remove xs at) p.cut ∙ remove-append_right p.front (p.entry ∷ p.back) at at p.behind (omega arith)
-      ∙ ap (λ n. p.front ++ remove (p.entry ∷ p.back) n) none
+  -- what is left of a list at whose place an entry is passed over
+  around_cut : (front : List (Entry A)) (e : Entry A) (back : List (Entry A))
+      → take (length front) (front ++ e ∷ back) ++ drop (suc (length front)) (front ++ e ∷ back) ≡ front ++ back
+  around_cut [] e back = refl
+  around_cut (x ∷ front) e back = ap (λ es. x ∷ es) (around_cut front e back)
+
+  around_place : (space page : ℕ) (es : List (Entry A)) (at : ℕ) → (p : IsPlace space page es at) → take at es ++ drop (at + 1) es ≡ p.front ++ p.back
+  around_place space page es at p =
+      let next : at + 1 ≡ suc (length p.front) = omega (arith, p.behind) in
+      (λ i. take (sym p.behind i) (p.cut i) ++ drop (next i) (p.cut i)) ∙ around_cut p.front p.entry p.back
 
   -- what is found at a place, and raised from there
   pub found_at : (space page : ℕ) (es : List (Entry A)) (at : ℕ) → (p : IsPlace space page es at) → found_in space page es ≡ Some p.entry.held
@@ -105,10 +108,11 @@ module _ {A : Type 0} where
       by_front [] none = refl
       by_front (x ∷ front) none = absurd (omega (arith, none))
 
+  -- another one is put at the front
   pub raised_other : (space page : ℕ) (es : List (Entry A)) (at : ℕ) (e : Entry A) → IsPlace space page es at → e ≡ get_or es at e
-      → insert (remove es at) 0 e ≡ raised space page es
+      → e ∷ (take at es ++ drop (at + 1) es) ≡ raised space page es
   raised_other space page es at e p is =
-      ap (λ x. x ∷ remove es at) (is ∙ at_place space page es at p e) ∙ ap (λ xs. p.entry ∷ xs) (remove_place space page es at p)
+      ap (λ x. x ∷ (take at es ++ drop (at + 1) es)) (is ∙ at_place space page es at p e) ∙ ap (λ xs. p.entry ∷ xs) (around_place space page es at p)
       ∙ sym (raised_at space page es at p)
 
   pub held_at : (space page : ℕ) (es : List (Entry A)) (at : ℕ) (e : Entry A) → IsPlace space page es at → e ≡ get_or es at e
@@ -134,12 +138,12 @@ module _ {A : Type 0} where
       by_test true is = absurd (other (of_page space page e is))
       by_test false is = refl
 
+  -- a whole slice that was lent and comes back
+  pub refill_all : (xs ws : List (Entry A)) → length ws ≡ length xs → refill (length xs) xs ws ≡ ws
+  refill_all xs ws count = ap (λ n. take n (ws ++ drop (length ws) xs)) (sym count) ∙ take-append_seam ws (drop (length ws) xs)
+
   refilled : (xs ys : List (Entry A)) (at : ℕ) (v : Entry A) → ys ≡ xs → refill (length xs) xs (set ys at v) ≡ set xs at v
-  refilled xs ys at v same = ap (λ zs. refill (length xs) xs (set zs at v)) same ∙ whole (set xs at v) (length-set xs at v)
-    where
-      whole : (ws : List (Entry A)) → length ws ≡ length xs → refill (length xs) xs ws ≡ ws
-      whole ws count =
-          ap (λ n. take n (ws ++ drop (length ws) xs)) (sym count) ∙ take-append_seam ws (drop (length ws) xs)
+  refilled xs ys at v same = ap (λ zs. refill (length xs) xs (set zs at v)) same ∙ refill_all xs (set xs at v) (length-set xs at v)
 
   set_cut : (front : List (Entry A)) (e v : Entry A) (back : List (Entry A)) → set (front ++ e ∷ back) (length front) v ≡ front ++ v ∷ back
   set_cut [] e v back = refl
@@ -154,3 +158,34 @@ module _ {A : Type 0} where
       ∙ ap (λ x. p.front ++ x ∷ p.back)
       (new ∙ ap (λ (x : Entry A). entry_of x.space x.page (f x.held)) (read ∙ ap (λ xs. get_or xs at d) same ∙ at_place space page es at p d))
       ∙ sym (ap (changed f space page) p.cut ∙ changed_cut f space page p.front p.entry p.back p.none p.is)
+
+  -- An entry is put at the front, and those before a place go one place back, from the last of them on.
+
+  -- the list while so many still have to go
+  pub lifted : ℕ → ℕ → List (Entry A) → List (Entry A)
+  lifted k at [] = []
+  lifted zero at (x ∷ es) = x ∷ (take at (x ∷ es) ++ drop at es)
+  lifted (suc k) zero (x ∷ es) = x ∷ es
+  lifted (suc k) (suc at) (x ∷ es) = x ∷ lifted k at es
+
+  pub lifted_none : (at : ℕ) (es : List (Entry A)) → es ≡ lifted at at es
+  unfolding lifted
+  lifted_none at [] = refl
+  lifted_none zero (x ∷ es) = refl
+  lifted_none (suc at) (x ∷ es) = ap (λ xs. x ∷ xs) (lifted_none at es)
+
+  -- one more went
+  pub lifted_more : (k at : ℕ) (es : List (Entry A)) (d : Entry A) → k < at → at < length es
+      → set (lifted (suc k) at es) (suc k) (get_or (lifted (suc k) at es) k d) ≡ lifted k at es
+  unfolding lifted
+  lifted_more k at [] d less within = absurd (omega (arith, within))
+  lifted_more k zero (x ∷ es) d less within = absurd (omega (arith, less))
+  lifted_more zero (suc at) (x ∷ []) d less within = absurd (omega (arith, within))
+  lifted_more zero (suc at) (x ∷ y ∷ es) d less within = refl
+  lifted_more (suc k) (suc at) (x ∷ es) d less within = ap (λ xs. x ∷ xs) (lifted_more k at es d (omega (arith, less)) (omega (arith, within)))
+
+  -- all went, and the entry stands at the front
+  pub lifted_all : (at : ℕ) (e : Entry A) (es : List (Entry A)) → at < length es → set (lifted zero at es) 0 e ≡ e ∷ (take at es ++ drop (suc at) es)
+  unfolding lifted
+  lifted_all at e [] within = absurd (omega (arith, within))
+  lifted_all at e (x ∷ es) within = refl

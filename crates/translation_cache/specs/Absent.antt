@@ -1,12 +1,12 @@
-use Rattle.std.proofs.Common.{◌≡◌, ℕ, zero, suc, ◌%◌, Bool, true, false, cond, not, nat_eq, List, [], ◌∷◌, get_or, map, replicate, take, slice_set, is_some, Option, Some, None, sym, ap, ◌∙◌, refl}
+use Rattle.std.proofs.Common.{◌≡◌, ℕ, zero, suc, ◌%◌, Bool, true, false, cond, not, nat_eq, List, [], ◌∷◌, get_or, map, replicate, take, slice_set, is_some, Option, Some, None, sym, refl}
 use Rattle.std.specs.List.{AllByRecursion}
 use Rattle.std.specs.FinMap.{get}
-use Rattle.std.proofs.lemmas.Bool.{eq-eqb, ne_eqb}
+use Rattle.std.proofs.lemmas.Bool.{ne_eqb}
 use Rattle.ovl_io.specs.Memory.{Access, Memory, denied_at}
 use Rattle.ovl_io.specs.PageBytes.{page_allows}
 use Rattle.translation_cache.specs.Bare.{BareTranslations}
 use Rattle.translation_cache.specs.Counted.{access_translated, counted, pages_under, translated, translated_pages}
-use Rattle.translation_cache.specs.Translations.{Entry, entered, entry_of, flushed, found, is_of, looked, looked_by, no_translations, set_of, with_hits, with_misses, with_set, without, without_space}
+use Rattle.translation_cache.specs.Translations.{Entry, entered, entry_of, flushed, found, is_of, looked, looked_by, no_translations, set_of, with_hits, with_misses, without, without_space}
 use Rattle.translation_cache.specs.declared.TheConstants.{SETS, SET_ENTRIES}
 
 -- Spaces of which nothing is in the lists.

@@ -1,5 +1,5 @@
 //! The lists and the counts.
-ghost use Rattle.std.specs.Prelude.{◌≡◌, ℕ, ◌%◌, ◌<◌, None, map};
+ghost use Rattle.std.specs.Prelude.{◌≡◌, ℕ, ◌-◌, ◌%◌, ◌^◌, ◌<◌, None, map};
 ghost use Rattle.sizes.specs.declared.TheConstants.{PAGE_LINES};
 ghost use Rattle.translation_cache.specs.Formed.{IsFormed};
 ghost use Rattle.translation_cache.specs.Translations.{entered, flushed, found, looked, no_translations, with_bit, with_cached, with_hits, without_space};
@@ -109,6 +109,17 @@ impl Cache {
         self.hits = self.hits.saturating_add(n);
     }
 
+    /// Counts one hit, as a look-up of a page whose entry is at the front does.
+    #[inline(always)]
+    pub fn count_hit(&mut self)
+        ensures { self.new ≡ with_hits 1 self.old }
+    {
+        self.hits = self.hits.wrapping_add(1);
+        if self.hits == 0 {
+            fill(&mut self.hits);
+        }
+    }
+
     /// How many look-ups found the entry of their page. It stays at 2^64 - 1.
     pub fn hits(&self) -> u64
         ensures hits { result ≡ self.now.hits }
@@ -124,6 +135,15 @@ impl Cache {
     {
         self.misses
     }
+}
+
+/// Has as many as there may be. It is rare and stands apart, so that counting one is no more than adding it.
+#[cold]
+#[inline(never)]
+fn fill(count: &mut u64)
+    ensures { count.new ≡ 2 ^ 64 - 1 }
+{
+    *count = u64::MAX;
 }
 
 /// The set of a page.

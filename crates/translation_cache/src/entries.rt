@@ -1,6 +1,6 @@
 //! One list.
 
-ghost use Rattle.std.specs.Prelude.{◌≡◌, ◌<◌, ◌≤◌, [], length, ◌∷◌, take};
+ghost use Rattle.std.specs.Prelude.{◌≡◌, ◌<◌, ◌≤◌, ◌+◌, ◌++◌, [], length, ◌∷◌, take, drop};
 ghost use Rattle.sizes.specs.declared.TheConstants.{PAGE_LINES};
 ghost use Rattle.translation_cache.specs.Cuts.{FindsPlace};
 ghost use Rattle.translation_cache.specs.Translations.{cached_with, changed, entry_of, found_in, raised, without_space};
@@ -98,8 +98,9 @@ impl Entries {
                     let first = self.list.as_slice()[0];
                     return Some(first.held);
                 }
-                let entry = self.list.remove(at);
-                self.list.insert(0, entry);
+                let list = self.list.as_mut_slice();
+                let entry = list[at];
+                shift_in(list, at, entry);
                 Some(entry.held)
             }
             None => None,
@@ -110,8 +111,14 @@ impl Entries {
     pub(crate) fn put_first(&mut self, space: u16, page: u64, held: Cached)
         ensures { self.new ≡ take SET_ENTRIES (entry_of space page held ∷ self.old) }
     {
-        self.list.truncate(SET_ENTRIES - 1);
-        self.list.insert(0, Entry { space, page, held });
+        let entry = Entry { space, page, held };
+        let count = self.list.len();
+        if count < SET_ENTRIES {
+            self.list.push(entry);
+            shift_in(self.list.as_mut_slice(), count, entry);
+        } else {
+            shift_in(self.list.as_mut_slice(), SET_ENTRIES - 1, entry);
+        }
     }
 
     /// Adds an own line, below 64, to what the entry of a page holds, where it is there.
@@ -147,4 +154,18 @@ impl Entries {
     {
         self.list.retain(|entry| entry.space != space);
     }
+}
+
+/// Puts an entry at the front of a list: those before a place move one place back, over what stands there.
+#[inline]
+fn shift_in(list: &mut [Entry], at: usize, entry: Entry)
+    requires { at < length list.old }
+    ensures { list.new ≡ entry ∷ (take at list.old ++ drop (at + 1) list.old) }
+{
+    let mut k = at;
+    'shifting: while k > 0 {
+        list[k] = list[k - 1];
+        k -= 1;
+    }
+    list[0] = entry;
 }

@@ -1,6 +1,6 @@
 use Rattle.std.proofs.Common.{ℕ, ◌+◌, ap, subst, sym}
 use Rattle.machine_core.specs.Ahead.{guest_ahead}
-use Rattle.machine_core.specs.Held.{Keeps}
+use Rattle.machine_core.specs.Held.{IsOn}
 use Rattle.machine_core.specs.Kept.{guest_lent}
 use Rattle.machine_core.specs.Turns.{AreLikeGuests, executed}
 use Rattle.machine_core.specs.declared.process.Process.{Process}
@@ -17,9 +17,8 @@ returns g c =
     let one = all 0 in
     record {
       ready = came.ensures.ready;
-      line = λ stepped.
-          subst (λ (q : Process). Keeps came.result.1 view came.new.view old.regs.pc q.regs.pc) (sym c.note.ensures) (came.ensures.line stepped);
-      on = came.ensures.on;
+      on = λ is. subst (λ (q : Process). IsOn view came.new.view old.regs.pc q.regs.pc came.result.0) (sym c.note.ensures) (came.ensures.on is);
+      stays = one.stays;
       loan = one.loan;
       space = one.space;
       outcome = λ n. (all n).outcome_is;

@@ -6,7 +6,7 @@ use Rattle.machine_core.proofs.stretches.run.Given as goal
 
 abbrev pub invariant-running : goal.invariant-running
 invariant-running g l = record {
-  so : AreRun (truth g.row.EXTENSION) (stops_in l.stops) l.lines l.fn.view l.view l.fn.process l.process l.fn.hand l.hand l.most l.pc l.initial.rest l.rest (l.count - length l.rest);
+  so : AreRun (truth g.row.EXTENSION) (stops_in l.stops) l.lines l.fn.view l.view l.fn.process l.process l.most l.pc l.initial.rest l.rest (l.count - length l.rest);
   within : length l.rest ≤ l.count;
 }
 

@@ -1,6 +1,5 @@
 use Rattle.std.proofs.Common.{◌≡◌, ◌-◌, ◌≤◌}
 use Rattle.ovl_io.specs.declared.process_state.ProcessState.TheVariants.{Running}
-use Rattle.rv_execute.specs.declared.outcome.Outcome.TheVariants.{Stepped}
 use Rattle.machine_core.specs.Access.{IsReadyView, spaces_lent}
 use Rattle.machine_core.specs.Ahead.{guest_ahead}
 use Rattle.machine_core.specs.Executions.{AreLikeExecutions, after_steps, executions, stops_in}
@@ -16,16 +15,15 @@ invariant-stepping g l = record {
   space : l.view.space ≡ l.fn.view.space;
   ready : IsReadyView l.view;
   all : AreLikeExecutions
-      (after_steps l.steps (executions (stops_in l.stops) l.fn.view.space (l.most - l.steps) (guest_ahead l.hand.owed (guest_lent (truth g.row.EXTENSION) l.view l.process))))
+      (after_steps (l.most - l.left) (executions (stops_in l.stops) l.fn.view.space (l.most - (l.most - l.left)) (guest_ahead l.view.hand.owed (guest_lent (truth g.row.EXTENSION) l.view l.process))))
       (executions (stops_in l.stops) l.fn.view.space l.most (guest_lent (truth g.row.EXTENSION) l.fn.view l.fn.process));
   running : l.process.state ≡ Running;
   saved : l.process.saved ≡ l.fn.process.saved;
-  few : l.hand.owed ≤ l.steps;
-  hand : IsInHand l.lines l.view.memory.now l.view.space l.hand;
+  few : l.view.hand.owed ≤ l.most - l.left;
+  hand : IsInHand l.lines l.view.memory.now l.view.space l.view.hand;
   beside : IsBeside l.fn.view.space (spaces_lent l.fn.view) (spaces_lent l.view);
-  within : l.steps ≤ l.most;
-  step : l.came ≡ Stepped;
+  within : l.left ≤ l.most;
 }
 
 abbrev pub decreases-stepping : goal.decreases-stepping
-decreases-stepping g l = l.most - l.steps
+decreases-stepping g l = l.left

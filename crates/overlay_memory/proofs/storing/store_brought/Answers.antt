@@ -44,7 +44,7 @@ returns-then-not-stays_overlay-clause-fronts c =
     subst (IsFront settled.space settled.page) (sym c.put_in_found-settled.ensures.lists)
     (subst (λ n. IsFront settled.space n old) (was.page_is ∙ sym at.page_is) (subst (λ n. IsFront n page.page old) (was.space_is ∙ sym at.space_is) c.requires.front)) in
     subst (AreFronts view (bare c.put_in_found-settled.new.cache)) (sym c.put.ensures)
-    (found_fronts view (bare c.put_in_found-settled.new.cache) c.clear.new.self settled (c.args.address / 4096) (none_known _ _ _ c.clear.ensures) front at.is at.page_is)
+    (found_fronts view (bare c.put_in_found-settled.new.cache) c.clear.new.self settled c.args.space (c.args.address / 4096) (none_known _ _ _ c.clear.ensures) front at)
 
 -- Where its line is brought.
 
@@ -71,8 +71,8 @@ returns-in-Some-put_brought-clause-fronts c =
     subst (λ o. IfSome o (IsBroughtTo c.args.pages.now.table view.table c.args.page line)) c.in-Some-put_brought.is c.put_brought.ensures.found in
     subst (λ t. AreFronts view t c.put-in-Some-put_brought.new.self) (sym c.put_brought.ensures.lists)
     (subst (AreFronts view (bare c.args.cache.now)) (sym c.put-in-Some-put_brought.ensures)
-    (brought_fronts c.args.pages.now view (bare c.args.cache.now) c.args.fronts.now c.args.page found line (c.args.address / 4096) c.requires.fronts c.requires.front to
-    (to.page_is ∙ c.requires.found.page_is)))
+    (brought_fronts c.args.pages.now view (bare c.args.cache.now) c.args.fronts.now c.args.page found line c.args.space (c.args.address / 4096) c.requires.fronts
+    c.requires.front to (to.space_is ∙ c.requires.found.space_is) (to.page_is ∙ c.requires.found.page_is)))
 
 pub returns-in-None-clause-stores : goal.returns-in-None-clause-stores
 returns-in-None-clause-stores c = (

@@ -9,7 +9,7 @@ use Rattle.translation_cache.specs.declared.cached.Cached.{Cached}
 pub invariant_of-result : goal.invariant_of-result
 invariant_of-result c = (
   with_cache (seen.state_of c.in_ok-pages.pages) _ c.new-cache.result c.new-cache.ensures (none_translated (seen.state_of c.in_ok-pages.pages) c.in_ok-pages.ensures.state.spaces),
-  none_known _ _ _ c.new-fronts.ensures,
+  none_known _ _ _ c.in_ok-fronts.ensures,
 )
 
 pub returns-clause-translations : goal.returns-clause-translations

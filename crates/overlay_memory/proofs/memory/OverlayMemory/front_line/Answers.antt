@@ -1,8 +1,8 @@
 use Rattle.std.proofs.Common.{◌/◌, sym, subst, ◌∙◌}
-use Rattle.overlay_memory.specs.Code.{IsCodeLine}
+use Rattle.overlay_memory.specs.Code.{IsFrontLine}
 use Rattle.overlay_memory.specs.View.{TranslatedView}
-use Rattle.overlay_memory.proofs.Fronting.{code_there, known_found, known_head}
-use Rattle.overlay_memory.proofs.memory.OverlayMemory.code_line.Goals as goal
+use Rattle.overlay_memory.proofs.Fronting.{front_there, known_found, known_head}
+use Rattle.overlay_memory.proofs.memory.OverlayMemory.front_line.Goals as goal
 use Rattle.translation_cache.specs.Bare.{bare}
 
 pub returns-then-contains : goal.returns-then-contains
@@ -11,8 +11,8 @@ returns-then-contains c =
     let t = bare c.self.inside.cache in
     let so = c.in-Some.ensures in
     let at = known_found pages c.args.space (c.args.address / 4096) c.in-Some.page.now t c.self.inside.fronts c.self.invariant.1 so in
-    subst (λ (m : TranslatedView). IsCodeLine m c.args.space c.args.address c.line_at.result.now) c.self.view_is
-    (code_there pages c.args.space c.args.address c.line_of.result c.in-Some.page.now c.line.result at c.line_of.ensures.line (c.line.ensures pages at.is)
-    c.self.inside.cache c.line_at.result.now (sym (c.contains.ensures tt) ∙ c.if-contains.true)
+    subst (λ (m : TranslatedView). IsFrontLine m c.args.space c.args.need.0 c.args.address c.line_at.result.now) c.self.view_is
+    (front_there pages c.args.space c.args.address c.line_of.result c.in-Some.page.now c.line.result at c.line_of.ensures.line (c.line.ensures pages at.is)
+    c.self.inside.cache c.args.need.0 c.line_at.result.now (sym (c.contains.ensures tt) ∙ c.if-contains.true)
     (known_head pages c.args.space (c.args.address / 4096) c.in-Some.page.now t c.self.inside.fronts c.self.invariant.1 so).front
     c.line_at.ensures.value c.line_at.ensures.bytes)
