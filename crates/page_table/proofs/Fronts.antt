@@ -10,8 +10,7 @@ use Rattle.page_table.specs.Table.{Pages, IsMapped, IsUnmapped, is_within}
 use Rattle.page_table.specs.Run.{IsNextRun, IsRunFrom}
 use Rattle.page_table.specs.Next.{NoneFrom}
 use Rattle.page_table.specs.Laws.{mapped_beside}
-use Rattle.number_maps.specs.Rows.{map_of}
-use Rattle.page_table.specs.Nodes.{Table, pages_by}
+use Rattle.page_table.specs.Nodes.{Links, Table, pages_by}
 use Rattle.page_table.specs.Kept.{run_pages, seen_table}
 use Rattle.page_table.proofs.Nexts.{none_more, run_later}
 
@@ -62,13 +61,13 @@ pub none_least : (pages : Pages) (front : ℕ) (run : PageRun) → NoneFrom page
 none_least pages front run none next = none_more pages 0 front run.page none next.none
 
 -- what is kept says it of the table that is seen
-pub front_seen : {overlaid : Chunks} (table : Table) (links : List (ℕ × ℕ)) (runs : List PageRun) (front : ℕ) → seen_table links runs overlaid ≡ table
-    → NoneFrom (pages_by (map_of links) (run_pages runs)) 0 front → NoneFrom table.pages 0 front
+pub front_seen : {overlaid : Chunks} (table : Table) (links : Links) (runs : List PageRun) (front : ℕ) → seen_table links runs overlaid ≡ table
+    → NoneFrom (pages_by links (run_pages runs)) 0 front → NoneFrom table.pages 0 front
 front_seen table links runs front is none = subst (λ (t : Table). NoneFrom t.pages 0 front) is none
 
 -- equal links and runs have as few pages
-pub front_same : (links old : List (ℕ × ℕ)) (runs was : List PageRun) (front : ℕ) → links ≡ old → runs ≡ was
-    → NoneFrom (pages_by (map_of old) (run_pages was)) 0 front → NoneFrom (pages_by (map_of links) (run_pages runs)) 0 front
+pub front_same : (links old : Links) (runs was : List PageRun) (front : ℕ) → links ≡ old → runs ≡ was
+    → NoneFrom (pages_by old (run_pages was)) 0 front → NoneFrom (pages_by links (run_pages runs)) 0 front
 front_same links old runs was front same also none =
-    subst (λ l. NoneFrom (pages_by (map_of l) (run_pages runs)) 0 front) (sym same)
-    (subst (λ (r : List PageRun). NoneFrom (pages_by (map_of old) (run_pages r)) 0 front) (sym also) none)
+    subst (λ l. NoneFrom (pages_by l (run_pages runs)) 0 front) (sym same)
+    (subst (λ (r : List PageRun). NoneFrom (pages_by old (run_pages r)) 0 front) (sym also) none)

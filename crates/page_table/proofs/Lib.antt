@@ -3,6 +3,7 @@ pub mod Places
 pub mod Edits
 pub mod Few
 pub mod Trees
+pub mod Both
 pub mod Slots
 pub mod Tables
 pub mod Steps

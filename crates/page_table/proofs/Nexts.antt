@@ -1,14 +1,13 @@
-use Rattle.std.proofs.Common.{◌≡◌, ℕ, suc, ◌+◌, ◌-◌, ◌*◌, ◌/◌, ◌%◌, ◌^◌, ◌<◌, ◌≤◌, ◌⊎◌, inl, inr, Bool, true, false, cond, List, [], ◌∷◌, zero, length, get_or, Option, Some, None, nat_lt, subst, sym, ap, ◌∙◌, refl, arith}
+use Rattle.std.proofs.Common.{◌≡◌, ℕ, suc, ◌+◌, ◌-◌, ◌*◌, ◌/◌, ◌%◌, ◌^◌, ◌<◌, ◌≤◌, ◌⊎◌, inl, inr, Bool, true, false, cond, Option, Some, None, nat_lt, subst, sym, ap, ◌∙◌, refl, arith}
 use Rattle.std.proofs.lemmas.Bool.{cases_lt}
 use Rattle.std.proofs.lemmas.Bool.Decides.{nat_tests}
 use Rattle.std.specs.FinMap.{get}
-use Rattle.number_maps.specs.Rows.{map_of, key_at, RowsRise, IsAt, IsGap}
-use Rattle.number_maps.specs.RowLaws.{got_at, got_gap, key_of, never_falls}
+use Rattle.number_maps.specs.Rows.{IsNextOne}
 use Rattle.page_table.specs.declared.run.PageRun.{PageRun}
 use Rattle.page_table.specs.Table.{Pages}
 use Rattle.page_table.specs.Run.{IsRunFrom, IsNextRun}
 use Rattle.page_table.specs.Nodes.{Links, child_at, look, node_at, page_end, pages_by, slot, slot_in}
-use Rattle.page_table.specs.Kept.{IsChildFrom, IsRest, IsStart, NoChild, moved_run}
+use Rattle.page_table.specs.Kept.{IsChildFrom, IsRest, NoChild, moved_run}
 use Rattle.page_table.specs.Next.{IsUpTo, NoneFrom}
 use Rattle.page_table.proofs.Trees.{slot_has, slot_none}
 use Rattle.page_table.proofs.Slots.{get_by}
@@ -280,60 +279,24 @@ next_first links leaves page (Some run) is = is
 next_first links leaves page None is =
     λ q le. none_more (pages_by links leaves) page (2 ^ 36) (q + 1) is (λ p from to. high_page links leaves p from) q le (omega arith)
 
--- What a place in the links says of the next child of a node.
+-- What the next link from a slot on says of the next child of a node.
 
-rises : (from : ℕ) (rows : List (ℕ × ℕ)) (i j : ℕ) → RowsRise from rows → i < j → j < length rows → key_at rows i < key_at rows j
-rises from [] i j h lt there = absurd (omega (arith, there))
-rises from (row ∷ rows) i zero h lt there = absurd (omega (arith, lt))
-rises from (row ∷ []) zero (suc j) h lt there = absurd (omega (arith, there))
-rises from (row ∷ (next ∷ rows)) zero (suc j) h lt there =
-    omega (arith, h.1.0, never_falls (row.0 + 1) (next ∷ rows) 0 j h.1 (omega arith) (omega (arith, there)))
-rises from (row ∷ rows) (suc i) (suc j) h lt there = rises (row.0 + 1) rows i j h.1 (omega (arith, lt)) (omega (arith, there))
+-- slots of a node are those of digits from one on, where they are behind its slot
+as_slot : (node key : ℕ) → 512 * node ≤ key → key ≡ slot node (key - 512 * node)
+as_slot node key le = omega (arith, le)
 
-pub start_at : (rows : List (ℕ × ℕ)) (key at : ℕ) → RowsRise 0 rows → IsAt rows key at → IsStart rows key at
-start_at rows key at rise is = record {
-  inside = omega (arith, is.there);
-  before = λ j lt. omega (arith, rises 0 rows j at rise lt is.there, is.has);
-  behind = λ j le there. omega (arith, never_falls 0 rows at j rise le there, is.has);
+pub child_none : (links : Links) (node digit : ℕ) → IsNextOne links (slot node digit) None → NoChild links node digit 512
+child_none links node digit none e le lt = none (slot node e) (omega (arith, le))
+
+pub child_past : (links : Links) (node digit key child : ℕ) → IsNextOne links (slot node digit) (Some (key, child)) → 512 * node + 512 ≤ key
+    → NoChild links node digit 512
+child_past links node digit key child next past e le lt = next.2 (slot node e) (omega (arith, le)) (omega (arith, lt, past))
+
+pub child_here : (links : Links) (node digit key child : ℕ) → IsNextOne links (slot node digit) (Some (key, child)) → key < 512 * node + 512
+    → IsChildFrom links node digit (key - 512 * node, child)
+child_here links node digit key child next low = record {
+  from = omega (arith, next.0);
+  low = omega (arith, low, next.0);
+  none = λ e le lt. next.2 (slot node e) (omega (arith, le)) (omega (arith, lt, next.0));
+  has = ap (get links) (sym (as_slot node key (omega (arith, next.0)))) ∙ next.1;
 }
-
-pub start_gap : (rows : List (ℕ × ℕ)) (key at : ℕ) → IsGap rows key at → IsStart rows key at
-start_gap rows key at gap = record {
-  inside = gap.inside;
-  before = gap.before;
-  behind = λ j le there. omega (arith, gap.behind j le there);
-}
-
--- between the links before a place and the one there no slot has a child
-none_between : (rows : List (ℕ × ℕ)) (node digit at next : ℕ) → RowsRise 0 rows → IsStart rows (slot node digit) at
-    → (at < length rows → slot node next ≤ key_at rows at) → NoChild (map_of rows) node digit next
-none_between rows node digit at next rise start past e le lt =
-    got_gap rows (slot node e) at (record {
-      inside = start.inside;
-      before = λ j less. omega (arith, start.before j less, le);
-      behind = λ j from there. omega (arith, past (omega (arith, from, there)), never_falls 0 rows at j rise from there, lt);
-    })
-
-pub child_none : (rows : List (ℕ × ℕ)) (node digit at : ℕ) → RowsRise 0 rows → IsStart rows (slot node digit) at
-    → (at < length rows → 512 * node + 512 ≤ key_at rows at) → NoChild (map_of rows) node digit 512
-child_none rows node digit at rise start past = none_between rows node digit at 512 rise start past
-
-pub child_here : (rows : List (ℕ × ℕ)) (node digit at key child : ℕ) → RowsRise 0 rows → IsStart rows (slot node digit) at → at < length rows
-    → get_or rows at (0, 0) ≡ (key, child) → key < 512 * node + 512 → IsChildFrom rows node digit at (key - 512 * node, child)
-child_here rows node digit at key child rise start there is low =
-    let keys : key_at rows at ≡ key = sym (key_of rows at (0, 0) there) ∙ ap (λ (row : ℕ × ℕ). row.0) is in
-    let from = start.behind at (omega arith) there in
-    let here : key_at rows at ≡ slot node (key - 512 * node) = omega (arith, keys, from) in
-    record {
-      from = omega (arith, keys, from);
-      low = omega (arith, low, keys, from);
-      none = none_between rows node digit at (key - 512 * node) rise start (λ _. omega (arith, here));
-      has = got_at rows (slot node (key - 512 * node)) at (0, 0) rise (record { there = there; has = here })
-          ∙ ap (λ (row : ℕ × ℕ). Some row.1) is;
-      there = there;
-      start = record {
-        inside = omega (arith, there);
-        before = λ j lt. omega (arith, never_falls 0 rows j at rise (omega (arith, lt)) there, here);
-        behind = λ j le less. omega (arith, rises 0 rows at j rise (omega (arith, le)) less, here);
-      };
-    }

@@ -3,21 +3,20 @@ use Rattle.std.specs.Option.{is_some, IsSome}
 use Rattle.std.specs.Ordering.{nat_cmp}
 use Rattle.std.specs.FinMap.{empty, get, insert, len, len-empty}
 use Rattle.number_maps.specs.Keys.{by_key, get_other, get_same}
-use Rattle.number_maps.specs.Rows.{map_of}
 use Rattle.page_set.specs.Sets.{AreChunks, AreTakenOut, Chunks, LieInFew, Members, chunks_in, holds}
 use Rattle.page_set.specs.Laws.{are_none, few_counted, few_more, few_within, holds_none}
 use Rattle.page_table.specs.declared.entry.PageEntry.{PageEntry}
 use Rattle.page_table.specs.declared.run.PageRun.{PageRun}
 use Rattle.page_table.specs.Table.{Pages, IsMapped, IsUnmapped, is_within}
-use Rattle.page_table.specs.Nodes.{Table, pages_by}
+use Rattle.page_table.specs.Nodes.{Links, Table, pages_by}
 use Rattle.page_table.specs.Kept.{AreOverlaid, run_pages, seen_table}
 use Rattle.page_table.proofs.Pages.{within_from, within_to}
 
 -- Which pages are overlaid, and what the calls make of it.
 
 -- what is kept says it of the table that is seen
-pub overlaid_seen : {overlaid : Chunks} (table : Table) (links : List (ℕ × ℕ)) (runs : List PageRun) (set : Members)
-    → seen_table links runs overlaid ≡ table → AreOverlaid (pages_by (map_of links) (run_pages runs)) set → AreOverlaid table.pages set
+pub overlaid_seen : {overlaid : Chunks} (table : Table) (links : Links) (runs : List PageRun) (set : Members)
+    → seen_table links runs overlaid ≡ table → AreOverlaid (pages_by links (run_pages runs)) set → AreOverlaid table.pages set
 overlaid_seen table links runs set is = subst (λ (t : Table). AreOverlaid t.pages set) is
 
 pub overlaid_none : (pages : Pages) (set : Members) → pages ≡ empty → set.chunks ≡ empty → AreOverlaid pages set
@@ -83,19 +82,19 @@ overlaid_set old new set page e own before is = record {
 }
 
 -- equal links and runs, and equal chunks
-pub overlaid_copy : (links old : List (ℕ × ℕ)) (runs was : List PageRun) (set later : Members) (count : ℕ) → links ≡ old → runs ≡ was → later.chunks ≡ set.chunks
-    → len (pages_by (map_of old) (run_pages was)) ≡ count → (count ≤ later.room) ⊎ (set.room ≤ later.room)
-    → AreOverlaid (pages_by (map_of old) (run_pages was)) set → AreOverlaid (pages_by (map_of links) (run_pages runs)) later
+pub overlaid_copy : (links old : Links) (runs was : List PageRun) (set later : Members) (count : ℕ) → links ≡ old → runs ≡ was → later.chunks ≡ set.chunks
+    → len (pages_by old (run_pages was)) ≡ count → (count ≤ later.room) ⊎ (set.room ≤ later.room)
+    → AreOverlaid (pages_by old (run_pages was)) set → AreOverlaid (pages_by links (run_pages runs)) later
 overlaid_copy links old runs was set later count same also chunks counted room own =
-    subst (λ l. AreOverlaid (pages_by (map_of l) (run_pages runs)) later) (sym same)
-    (subst (λ (r : List PageRun). AreOverlaid (pages_by (map_of old) (run_pages r)) later) (sym also) (record {
+    subst (λ l. AreOverlaid (pages_by l (run_pages runs)) later) (sym same)
+    (subst (λ (r : List PageRun). AreOverlaid (pages_by old (run_pages r)) later) (sym also) (record {
       are = subst AreChunks (sym chunks) own.are;
       there = λ page held. own.there page (ap (λ (m : Chunks). holds m page) (sym chunks) ∙ held);
       roomy = roomy room;
     }))
   where
     pages : Pages
-    pages = pages_by (map_of old) (run_pages was)
+    pages = pages_by old (run_pages was)
 
     roomy : (count ≤ later.room) ⊎ (set.room ≤ later.room) → LieInFew pages later.room
     roomy (inl all) = few_counted pages later.room (omega (arith, counted, all))

@@ -1,12 +1,9 @@
-use Rattle.std.proofs.Common.{◌≡◌, ℕ, zero, suc, ◌+◌, ◌*◌, ◌/◌, ◌%◌, ◌^◌, ◌<◌, ◌≤◌, ◌⊎◌, inl, inr, Bool, true, false, cond, List, length, Option, Some, None, nat_lt, subst, sym, ap, ◌∙◌, refl, arith}
+use Rattle.std.proofs.Common.{◌≡◌, ℕ, zero, suc, ◌+◌, ◌*◌, ◌/◌, ◌%◌, ◌^◌, ◌<◌, ◌≤◌, ◌⊎◌, inl, inr, Bool, true, false, cond, Option, Some, None, nat_lt, subst, sym, ap, ◌∙◌, refl, arith}
 use Rattle.std.proofs.lemmas.Bool.Decides.{nat_tests}
 use Rattle.std.specs.Option.{is_some, IsSome}
-use Rattle.std.specs.List as list
-use Rattle.std.specs.FinMap.{get, insert}
-use Rattle.std.proofs.lemmas.List.Edits.{length-insert}
+use Rattle.std.specs.Cmp.{nat_cmp_total}
+use Rattle.std.specs.FinMap.{get, insert, len, len-insert}
 use Rattle.number_maps.specs.Keys.{by_key, get_same, get_other}
-use Rattle.number_maps.specs.Rows.{map_of, key_at, RowsRise, IsGap}
-use Rattle.number_maps.specs.RowLaws.{got_gap, map_insert, never_falls, rise_insert}
 use Rattle.page_table.specs.declared.entry.PageEntry.{PageEntry}
 use Rattle.page_table.specs.Nodes.{Links, child_at, look, node_at, page_end, size, slot, slot_in, page_slot}
 use Rattle.page_table.specs.Kept.{IsNodeOfPath, IsUpper, EndBy, HaveGrown, HasChild, HasLeaf, HaveLeaves, IsTree}
@@ -251,38 +248,38 @@ fresh_spot old new node d fresh kept upper low has =
           ∙ ap (λ (k : ℕ). get new (slot node k)) last ∙ has;
     }
 
-pub grown : (old new : List (ℕ × ℕ)) (node d at : ℕ) → IsTree old → IsUpper (map_of old) node → d < 512 → slot node d < 512 * (length old + 1)
-    → IsGap old (slot node d) at
-    → new ≡ list.insert old at (slot node d, length old + 1) → HaveGrown old new
-grown old new node d at tree upper digit low gap is =
+len_free : (m : Links) (k c : ℕ) → get m k ≡ None → len (insert m k c) ≡ len m + 1
+len_free m k c free = len-insert nat_cmp_total m k c ∙ ap (λ (o : Option ℕ). cond (is_some o) (len m) (len m + 1)) free
+
+pub grown : (old new : Links) (node d : ℕ) → IsTree old → IsUpper old node → d < 512 → slot node d < 512 * (len old + 1)
+    → get old (slot node d) ≡ None → new ≡ insert old (slot node d) (len old + 1) → HaveGrown old new
+grown old new node d tree upper digit low free is =
     let key = slot node d in
-    let fresh = length old + 1 in
-    let grew : length new ≡ length old + 1 = ap (λ (l : List (ℕ × ℕ)). length l) is ∙ length-insert old at (key, fresh) gap.inside in
-    let same : map_of new ≡ insert (map_of old) key fresh = ap map_of is ∙ map_insert old key at fresh gap in
-    let fresh_one : IsFresh (map_of old) (map_of new) fresh =
-    subst (λ (m : Links). IsFresh (map_of old) m fresh) (sym same) (linked (map_of old) key fresh (got_gap old key at gap) low tree.low) in
+    let fresh = len old + 1 in
+    let grew : len new ≡ len old + 1 = ap len is ∙ len_free old key fresh free in
+    let fresh_one : IsFresh old new fresh =
+    subst (λ (m : Links). IsFresh old m fresh) (sym is) (linked old key fresh free low tree.low) in
     record {
       tree = record {
-        rise = subst (λ l. RowsRise 0 l) (sym is) (rise_insert 0 old key at fresh tree.rise (omega arith) gap);
         spots = λ c lt. by_key c fresh
-            (λ same_node. subst (λ k. IsNodeOfPath (map_of new) k) (sym same_node)
-            (fresh_spot (map_of old) (map_of new) node d fresh fresh_one.kept upper digit
-            (ap (λ (m : Links). get m key) same ∙ get_same (map_of old) key key fresh refl)))
-            (λ other. kept_spot (map_of old) (map_of new) c fresh_one.kept (tree.spots c (omega (arith, lt, grew, other))));
+            (λ same_node. subst (λ k. IsNodeOfPath new k) (sym same_node)
+            (fresh_spot old new node d fresh fresh_one.kept upper digit
+            (ap (λ (m : Links). get m key) is ∙ get_same old key key fresh refl)))
+            (λ other. kept_spot old new c fresh_one.kept (tree.spots c (omega (arith, lt, grew, other))));
         low = λ k c h.
-            let is_low = linked_low (map_of old) key fresh low tree.low k c (ap (λ (m : Links). get m k) (sym same) ∙ h) in
+            let is_low = linked_low old key fresh low tree.low k c (ap (λ (m : Links). get m k) (sym is) ∙ h) in
             (omega (arith, is_low.0, grew), omega (arith, is_low.1, grew));
-        once = subst Once (sym same) (linked_once (map_of old) key fresh (λ k c h. (tree.low k c h).1) tree.once);
+        once = subst Once (sym is) (linked_once old key fresh (λ k c h. (tree.low k c h).1) tree.once);
       };
       more = omega (arith, grew);
       kept = fresh_one.kept;
-      same = looks_same (map_of old) (map_of new) fresh fresh_one;
+      same = looks_same old new fresh fresh_one;
     }
 
-pub grown_none : (old : List (ℕ × ℕ)) → IsTree old → HaveGrown old old
+pub grown_none : (old : Links) → IsTree old → HaveGrown old old
 grown_none old tree = record { tree = tree; more = omega arith; kept = λ k c h. h; same = λ has ends page. refl }
 
-pub grown_more : (old mid new : List (ℕ × ℕ)) → HaveGrown old mid → HaveGrown mid new → HaveGrown old new
+pub grown_more : (old mid new : Links) → HaveGrown old mid → HaveGrown mid new → HaveGrown old new
 grown_more old mid new first second = record {
   tree = second.tree;
   more = omega (arith, first.more, second.more);
@@ -293,26 +290,21 @@ grown_more old mid new first second = record {
 
 -- A node has a child.
 
-pub child_there : (old : List (ℕ × ℕ)) (node d at : ℕ) (row : ℕ × ℕ) → IsTree old → get (map_of old) (slot node d) ≡ Some row.1
-    → HasChild old node d old row.1
-child_there old node d at row tree there = record {
+pub child_there : (old : Links) (node d child : ℕ) → IsTree old → get old (slot node d) ≡ Some child → HasChild old node d old child
+child_there old node d child tree there = record {
   grown = grown_none old tree;
-  one = omega arith;
   there = there;
-  low = (tree.low (slot node d) row.1 there).1;
+  low = (tree.low (slot node d) child there).1;
 }
 
-pub child_made : (old new : List (ℕ × ℕ)) (node d at child : ℕ) → IsTree old → IsUpper (map_of old) node → node < length old + 1 → d < 512
-    → IsGap old (slot node d) at → child ≡ length old + 1 → new ≡ list.insert old at (slot node d, child) → HasChild old node d new child
-child_made old new node d at child tree upper low dl gap is made =
-    let same : new ≡ list.insert old at (slot node d, length old + 1) = made ∙ ap (λ (c : ℕ). list.insert old at (slot node d, c)) is in
-    let more = grown old new node d at tree upper dl (omega (arith, low, dl)) gap same in
-    let grew : length new ≡ length old + 1 = ap (λ (l : List (ℕ × ℕ)). length l) same ∙ length-insert old at (slot node d, length old + 1) gap.inside in
+pub child_made : (old new : Links) (node d child : ℕ) → IsTree old → IsUpper old node → node < len old + 1 → d < 512
+    → get old (slot node d) ≡ None → child ≡ len old + 1 → new ≡ insert old (slot node d) child → HasChild old node d new child
+child_made old new node d child tree upper low dl free is made =
+    let same : new ≡ insert old (slot node d) (len old + 1) = made ∙ ap (λ (c : ℕ). insert old (slot node d) c) is in
+    let grew : len new ≡ len old + 1 = ap len made ∙ len_free old (slot node d) child free in
     record {
-      grown = more;
-      one = omega (arith, grew);
-      there = ap (λ (l : List (ℕ × ℕ)). get (map_of l) (slot node d)) made ∙ ap (λ (m : Links). get m (slot node d)) (map_insert old (slot node d) at child gap)
-          ∙ get_same (map_of old) (slot node d) (slot node d) child refl;
+      grown = grown old new node d tree upper dl (omega (arith, low, dl)) free same;
+      there = ap (λ (m : Links). get m (slot node d)) made ∙ get_same old (slot node d) (slot node d) child refl;
       low = omega (arith, is, grew);
     }
 
@@ -322,44 +314,21 @@ some_kept : (p q : Option ℕ) → ((m : ℕ) → p ≡ Some m → q ≡ Some m)
 some_kept None q kept h = cc
 some_kept (Some m) q kept h = ap is_some (kept m refl)
 
-pub leaf_kept : (old new : List (ℕ × ℕ)) (above : ℕ) → HaveGrown old new → IsSome (node_at (map_of old) 3 above)
-    → IsSome (node_at (map_of new) 3 above)
+pub leaf_kept : (old new : Links) (above : ℕ) → HaveGrown old new → IsSome (node_at old 3 above)
+    → IsSome (node_at new 3 above)
 leaf_kept old new above more h =
-    some_kept (node_at (map_of old) 3 above) (node_at (map_of new) 3 above) (λ m is. kept_at (map_of old) (map_of new) more.kept 3 above m is) h
+    some_kept (node_at old 3 above) (node_at new 3 above) (λ m is. kept_at old new more.kept 3 above m is) h
 
-pub leaves_none : (old : List (ℕ × ℕ)) (from : ℕ) → IsTree old → HaveLeaves old from from old
-leaves_none old from tree = record { grown = grown_none old tree; three = omega arith; there = λ a le lt. absurd (omega (arith, le, lt)) }
+pub leaves_none : (old : Links) (from : ℕ) → IsTree old → HaveLeaves old from from old
+leaves_none old from tree = record { grown = grown_none old tree; there = λ a le lt. absurd (omega (arith, le, lt)) }
 
-pub leaves_more : (old mid new : List (ℕ × ℕ)) (from at : ℕ) → from ≤ at → HaveLeaves old from at mid → HasLeaf mid at new
+pub leaves_more : (old mid new : Links) (from at : ℕ) → from ≤ at → HaveLeaves old from at mid → HasLeaf mid at new
     → HaveLeaves old from (at + 1) new
 leaves_more old mid new from at le first second = record {
   grown = grown_more old mid new first.grown second.grown;
-  three = omega (arith, first.three, second.three, le);
   there = λ a low lt. by_key a at
-      (λ same. subst (λ k. IsSome (node_at (map_of new) 3 k)) (sym same) second.there)
+      (λ same. subst (λ k. IsSome (node_at new 3 k)) (sym same) second.there)
       (λ other. leaf_kept mid new a second.grown (first.there a low (omega (arith, lt, other))));
-}
-
--- Links are gone over: those before a place lie before a slot.
-
-abbrev pub AllBelow : List (ℕ × ℕ) → ℕ → ℕ → Type 0
-AllBelow links key at = (j : ℕ) → j < at → key_at links j < key
-
-abbrev pub AllAbove : List (ℕ × ℕ) → ℕ → ℕ → Type 0
-AllAbove links key at = (j : ℕ) → at ≤ j → j < length links → key < key_at links j
-
-pub below_here : (links : List (ℕ × ℕ)) (key at : ℕ) → RowsRise 0 links → at < length links → key_at links at < key → AllBelow links key (at + 1)
-below_here links key at rise there lt j le = omega (arith, lt, never_falls 0 links j at rise (omega (arith, le)) there)
-
-pub above_here : (links : List (ℕ × ℕ)) (key at : ℕ) → RowsRise 0 links → key < key_at links at → AllAbove links key at
-above_here links key at rise lt j le there = omega (arith, lt, never_falls 0 links at j rise le there)
-
-pub gap_here : (links : List (ℕ × ℕ)) (key low high : ℕ) → low ≡ high → high ≤ length links → AllBelow links key low → AllAbove links key high
-    → IsGap links key low
-gap_here links key low high same inside below above = record {
-  inside = omega (arith, same, inside);
-  before = below;
-  behind = λ j le lt. above j (omega (arith, same, le)) lt;
 }
 
 -- Nodes of a path that are no leaves.

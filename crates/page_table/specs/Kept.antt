@@ -1,7 +1,6 @@
 use Rattle.std.specs.Prelude.{◌≡◌, ℕ, zero, suc, ◌+◌, ◌-◌, ◌*◌, ◌^◌, ◌<◌, ◌≤◌, Bool, true, false, List, [], ◌∷◌, length, get_or, nat_le, nat_lt, if◌then◌else◌, Option, Some, None, IsSome}
 use Rattle.std.specs.FinMap.{empty, get, insert, len}
 use Rattle.sizes.specs.declared.TheConstants.{TABLE_SLOTS}
-use Rattle.number_maps.specs.Rows.{RowsRise, key_at, map_of}
 use Rattle.page_set.specs.Sets.{AreChunks, Chunks, LieInFew, Members, holds}
 use Rattle.page_table.specs.Next.{NoneFrom}
 use Rattle.page_table.specs.Nodes.{Links, Table, look, node_at, slot, page_slot, pages_by, size}
@@ -161,24 +160,22 @@ pub record IsUpper (links : Links) (node : ℕ) : Type 0 where
   pub low : above < size level
   pub at : node_at links level above ≡ Some node
 
--- What the links of a table keep: rows by rising slots. The slots are those of nodes that there are, and the nodes that they lead to
--- too; no two lead to one.
-pub record IsTree (links : List (ℕ × ℕ)) : Type 0 where
-  pub rise : RowsRise 0 links
-  pub spots : (node : ℕ) → node < length links + 1 → IsNodeOfPath (map_of links) node
-  pub low : (k c : ℕ) → get (map_of links) k ≡ Some c → (k < TABLE_SLOTS * (length links + 1)) × (c < length links + 1)
-  pub once : (j k c : ℕ) → get (map_of links) j ≡ Some c → get (map_of links) k ≡ Some c → j ≡ k
+-- What the links of a table keep: the slots are those of nodes that there are, and the nodes that they lead to too; no two lead to one.
+pub record IsTree (links : Links) : Type 0 where
+  pub spots : (node : ℕ) → node < len links + 1 → IsNodeOfPath links node
+  pub low : (k c : ℕ) → get links k ≡ Some c → (k < TABLE_SLOTS * (len links + 1)) × (c < len links + 1)
+  pub once : (j k c : ℕ) → get links j ≡ Some c → get links k ≡ Some c → j ≡ k
 
 -- no slot from one on has an entry
 abbrev pub EndBy : (ℕ → Option PageEntry) → ℕ → Type 0
 EndBy has end = (s : ℕ) → end ≤ s → has s ≡ None
 
 -- what there is of a table: its links, its runs of slots, how many pages it has, and the room for runs
-pub record AreHeld (links : List (ℕ × ℕ)) (runs : List PageRun) (count room : ℕ) : Type 0 where
+pub record AreHeld (links : Links) (runs : List PageRun) (count room : ℕ) : Type 0 where
   pub tree : IsTree links
   pub kept : AreTableRuns runs count room
-  pub ends : EndBy (get (run_pages runs)) (TABLE_SLOTS * (length links + 1))
-  pub counted : len (pages_by (map_of links) (run_pages runs)) ≡ count
+  pub ends : EndBy (get (run_pages runs)) (TABLE_SLOTS * (len links + 1))
+  pub counted : len (pages_by links (run_pages runs)) ≡ count
 
 -- which pages are overlaid: pages that are there; and there is room for the chunks of all that are
 pub record AreOverlaid (pages : Pages) (set : Members) : Type 0 where
@@ -187,36 +184,33 @@ pub record AreOverlaid (pages : Pages) (set : Members) : Type 0 where
   pub roomy : LieInFew pages set.room
 
 -- and a page below which there is none
-pub record IsPageTable (links : List (ℕ × ℕ)) (runs : List PageRun) (count room front : ℕ) (set : Members) : Type 0 where
+pub record IsPageTable (links : Links) (runs : List PageRun) (count room front : ℕ) (set : Members) : Type 0 where
   pub held : AreHeld links runs count room
-  pub none : NoneFrom (pages_by (map_of links) (run_pages runs)) 0 front
-  pub overlaid : AreOverlaid (pages_by (map_of links) (run_pages runs)) set
+  pub none : NoneFrom (pages_by links (run_pages runs)) 0 front
+  pub overlaid : AreOverlaid (pages_by links (run_pages runs)) set
 
 -- links to more nodes, which have no entry, lead to what they led to before
-pub record HaveGrown (old new : List (ℕ × ℕ)) : Type 0 where
+pub record HaveGrown (old new : Links) : Type 0 where
   pub tree : IsTree new
-  pub more : length old ≤ length new
-  pub kept : (k c : ℕ) → get (map_of old) k ≡ Some c → get (map_of new) k ≡ Some c
-  pub same : (has : ℕ → Option PageEntry) → EndBy has (TABLE_SLOTS * (length old + 1)) → (page : ℕ)
-      → look has (page_slot (map_of new) page) ≡ look has (page_slot (map_of old) page)
+  pub more : len old ≤ len new
+  pub kept : (k c : ℕ) → get old k ≡ Some c → get new k ≡ Some c
+  pub same : (has : ℕ → Option PageEntry) → EndBy has (TABLE_SLOTS * (len old + 1)) → (page : ℕ)
+      → look has (page_slot new page) ≡ look has (page_slot old page)
 
 -- a node has a child, which was made where there was none
-pub record HasChild (old : List (ℕ × ℕ)) (node digit : ℕ) (new : List (ℕ × ℕ)) (child : ℕ) : Type 0 where
+pub record HasChild (old : Links) (node digit : ℕ) (new : Links) (child : ℕ) : Type 0 where
   pub grown : HaveGrown old new
-  pub one : length new ≤ length old + 1
-  pub there : get (map_of new) (slot node digit) ≡ Some child
-  pub low : child < length new + 1
+  pub there : get new (slot node digit) ≡ Some child
+  pub low : child < len new + 1
 
 -- a path leads to a leaf
-pub record HasLeaf (old : List (ℕ × ℕ)) (above : ℕ) (new : List (ℕ × ℕ)) : Type 0 where
+pub record HasLeaf (old : Links) (above : ℕ) (new : Links) : Type 0 where
   pub grown : HaveGrown old new
-  pub three : length new ≤ length old + 3
-  pub there : IsSome (node_at (map_of new) 3 above)
+  pub there : IsSome (node_at new 3 above)
 
-pub record HaveLeaves (old : List (ℕ × ℕ)) (from to : ℕ) (new : List (ℕ × ℕ)) : Type 0 where
+pub record HaveLeaves (old : Links) (from to : ℕ) (new : Links) : Type 0 where
   pub grown : HaveGrown old new
-  pub three : length new ≤ length old + 3 * (to - from)
-  pub there : (above : ℕ) → from ≤ above → above < to → IsSome (node_at (map_of new) 3 above)
+  pub there : (above : ℕ) → from ≤ above → above < to → IsSome (node_at new 3 above)
 
 -- the n pages from one on have paths
 abbrev pub HavePaths : Links → ℕ → ℕ → Type 0
@@ -227,50 +221,42 @@ abbrev pub HasChanged : Option PageEntry → Pages → ℕ → ℕ → Pages →
 HasChanged x old from n new = (q : ℕ) → get new q ≡ (if is_within from n q then x else get old q)
 
 -- n pages that weren't there have the entry, by their slots
-pub record HaveFilled (links : List (ℕ × ℕ)) (old : List PageRun) (from n : ℕ) (entry : PageEntry) (new : List PageRun) : Type 0 where
-  pub pages : HasChanged (Some entry) (pages_by (map_of links) (run_pages old)) from n (pages_by (map_of links) (run_pages new))
+pub record HaveFilled (links : Links) (old : List PageRun) (from n : ℕ) (entry : PageEntry) (new : List PageRun) : Type 0 where
+  pub pages : HasChanged (Some entry) (pages_by links (run_pages old)) from n (pages_by links (run_pages new))
   pub rise : ComeInOrder 0 new
-  pub ends : EndBy (get (run_pages new)) (TABLE_SLOTS * (length links + 1))
+  pub ends : EndBy (get (run_pages new)) (TABLE_SLOTS * (len links + 1))
   pub count : total new ≡ total old + n
 
 -- n pages were taken away
-pub record HaveCleared (links : List (ℕ × ℕ)) (old : List PageRun) (from n : ℕ) (new : List PageRun) : Type 0 where
-  pub pages : HasChanged None (pages_by (map_of links) (run_pages old)) from n (pages_by (map_of links) (run_pages new))
+pub record HaveCleared (links : Links) (old : List PageRun) (from n : ℕ) (new : List PageRun) : Type 0 where
+  pub pages : HasChanged None (pages_by links (run_pages old)) from n (pages_by links (run_pages new))
   pub rise : ComeInOrder 0 new
-  pub ends : EndBy (get (run_pages new)) (TABLE_SLOTS * (length links + 1))
+  pub ends : EndBy (get (run_pages new)) (TABLE_SLOTS * (len links + 1))
   pub count : total new + n ≡ total old
 
 -- what is seen of a table
-abbrev pub seen_table : List (ℕ × ℕ) → List PageRun → Chunks → Table
+abbrev pub seen_table : Links → List PageRun → Chunks → Table
 seen_table links runs overlaid = record {
-  pages = pages_by (map_of links) (run_pages runs);
-  links = map_of links;
+  pages = pages_by links (run_pages runs);
+  links = links;
   leaves = run_pages runs;
   overlaid = overlaid;
 }
-
--- the links from a slot on begin at a place
-pub record IsStart (links : List (ℕ × ℕ)) (key at : ℕ) : Type 0 where
-  pub inside : at ≤ length links
-  pub before : (j : ℕ) → j < at → key_at links j < key
-  pub behind : (j : ℕ) → at ≤ j → j < length links → key ≤ key_at links j
 
 -- a node has no child from a digit on, below another
 abbrev pub NoChild : Links → ℕ → ℕ → ℕ → Type 0
 NoChild links node from to = (e : ℕ) → from ≤ e → e < to → get links (slot node e) ≡ None
 
--- the first child of a node from a digit on, whose link stands at a place
-pub record IsChildFrom (links : List (ℕ × ℕ)) (node digit at : ℕ) (found : ℕ × ℕ) : Type 0 where
+-- the first child of a node from a digit on
+pub record IsChildFrom (links : Links) (node digit : ℕ) (found : ℕ × ℕ) : Type 0 where
   pub from : digit ≤ found.0
   pub low : found.0 < TABLE_SLOTS
-  pub none : NoChild (map_of links) node digit found.0
-  pub has : get (map_of links) (slot node found.0) ≡ Some found.1
-  pub there : at < length links
-  pub start : IsStart links (slot node (found.0 + 1)) (at + 1)
+  pub none : NoChild links node digit found.0
+  pub has : get links (slot node found.0) ≡ Some found.1
 
-abbrev pub IsNextChild : List (ℕ × ℕ) → ℕ → ℕ → ℕ → Option (ℕ × ℕ) → Type 0
-IsNextChild links node digit at None = NoChild (map_of links) node digit TABLE_SLOTS
-IsNextChild links node digit at (Some found) = IsChildFrom links node digit at found
+abbrev pub IsNextChild : Links → ℕ → ℕ → Option (ℕ × ℕ) → Type 0
+IsNextChild links node digit None = NoChild links node digit TABLE_SLOTS
+IsNextChild links node digit (Some found) = IsChildFrom links node digit found
 
 -- the first slots not below one: as many as lie in one run, or that there is none
 pub record IsRest (leaves : Pages) (at : ℕ) (run : PageRun) : Type 0 where

@@ -8,8 +8,9 @@
 //!
 //! - `entry`: what a page has
 //! - `run`: pages that lie one after the other, with frames that are one or rise
-//! - `nodes`: the nodes by number, each with a guess of where its links and runs stand
-//! - `links`: the children of slots, the way from a page to its slot, and new nodes
+//! - `nodes`: the nodes by number, each with guesses of where its links and runs stand
+//! - `links`: the children of slots, in a long list and a short one
+//! - `tree`: the way from a page to its slot, and new nodes
 //! - `runs`: the entries of slots, as runs by rising slots
 //! - `paths`: changes of pages, leaf by leaf
 //! - `next`: the next pages, from the node on that was reached
@@ -24,6 +25,7 @@ mod paths;
 mod run;
 mod runs;
 mod table;
+mod tree;
 
 pub use entry::PageEntry;
 pub use run::PageRun;

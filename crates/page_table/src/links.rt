@@ -1,22 +1,23 @@
-//! The links of a table's nodes, and the way from a page to its slot.
+//! The links of a table: which slot has which child.
+//!
+//! They stand in two lists by rising slots, a long one and a short one of those that came last, so that few links move where one is
+//! put in. Where the short one has grown, both are made one.
 
-ghost use Rattle.std.specs.Prelude.{◌≡◌, ◌+◌, ◌-◌, ◌*◌, ◌/◌, ◌%◌, ◌^◌, ◌<◌, ◌≤◌, length, IfOk, IfErr, None, OnOk};
+ghost use Rattle.std.specs.Prelude.{◌≡◌, ◌+◌, ◌<◌, ◌≤◌, IfOk, IfErr, None, OnOk};
 ghost use Rattle.std.specs.FinMap as map;
-ghost use Rattle.std.specs.Vec.{vec_capacity};
-ghost use Rattle.sizes.specs.declared.TheConstants.{TABLE_SLOTS};
-ghost use Rattle.number_maps.specs.Rows.{IsAt, IsGap, RowsRise, map_of};
-ghost use Rattle.page_table.specs.Nodes.{node_at, slot, page_slot};
-ghost use Rattle.page_table.specs.Kept.{HaveGrown, HasChild, HasLeaf, HaveLeaves, IsNextChild, IsStart, IsTree, IsUpper};
+ghost use Rattle.number_maps.specs.Rows.{IsAt, IsGap, IsNextOne, RowsRise, map_of};
+ghost use Rattle.page_table.specs.Links.{AreApart, AreMerged, HasStep, IsStart};
 
-use crate::nodes::Nodes;
+use crate::nodes::{add_link, count_links, rows_of};
 use sizes::TABLE_SLOTS;
-use std::alloc::AllocError;
+use std::alloc::{AllocError, Global};
+use std::marker::Model;
 
 /// A slot that has a child, with its number.
 pub(crate) type Link = (u64, u32);
 
-/// Page numbers are below this: they have four digits.
-pub(crate) const TABLE_END: u64 = TABLE_SLOTS * TABLE_SLOTS * TABLE_SLOTS * TABLE_SLOTS;
+// After a mapping one link may be recent for so many that are settled.
+const SETTLED_PART: usize = 32;
 
 // A place from one on and before another: a guess, where it is one, and else the middle.
 #[inline]
@@ -33,7 +34,7 @@ pub(crate) fn place_in(low: usize, high: usize, guess: usize) -> usize
 }
 
 // Where the link of a slot stands, or would stand. Looks at a guess first, then further and further from it, and then in the middle
-// of what is left.
+// of what is left; where the guess is no place, in the middle at once.
 #[cold]
 #[inline(never)]
 fn search(links: &[Link], slot: u64, guess: usize) -> Result<usize, usize>
@@ -44,7 +45,7 @@ fn search(links: &[Link], slot: u64, guess: usize) -> Result<usize, usize>
     let mut low = 0;
     let mut high = links.len();
     let mut guess = guess;
-    let mut step: usize = 1;
+    let mut step = if guess < high { 1 } else { high };
     'looking: while low < high {
         let at = place_in(low, high, guess);
         let key = links[at].0;
@@ -65,8 +66,8 @@ fn search(links: &[Link], slot: u64, guess: usize) -> Result<usize, usize>
 
 // Where the link of a node's slot may stand.
 #[inline]
-fn guess_of(links: &[Link], nodes: &Nodes, slot: u64) -> usize {
-    let rows = nodes.links_of(slot / TABLE_SLOTS, links.len());
+fn guess_of(links: &[Link], before: &[usize], slot: u64) -> usize {
+    let rows = rows_of(before, slot / TABLE_SLOTS, links.len());
     match rows.few() {
         Some(first) => first,
         None => match links.get(rows.first()) {
@@ -79,158 +80,282 @@ fn guess_of(links: &[Link], nodes: &Nodes, slot: u64) -> usize {
     }
 }
 
-// Where the link of a slot stands, or would stand.
+// Where the link of a slot stands if each slot between it and the one at a place has a child.
 #[inline]
-fn place_of(links: &[Link], nodes: &Nodes, slot: u64) -> Result<usize, usize>
+fn beside(at: usize, key: u64, slot: u64) -> usize {
+    at.wrapping_add(slot.wrapping_sub(key) as usize)
+}
+
+// Where the link of a slot stands, or would stand: at a guess, or else by a search.
+#[inline]
+fn place_of(links: &[Link], slot: u64, guess: usize) -> Result<usize, usize>
     requires { RowsRise 0 links.now }
     ensures there { IfOk result (IsAt links.now slot) }
     ensures gap { IfErr result (IsGap links.now slot) }
 {
-    let guess = guess_of(links, nodes, slot);
     if guess < links.len() && links[guess].0 == slot {
         return Ok(guess);
     }
     search(links, slot, guess)
 }
 
-/// The child of a node at a digit.
-#[inline]
-pub(crate) fn child_in(links: &[Link], nodes: &Nodes, node: u32, digit: u64) -> Option<u32>
-    requires rise { RowsRise 0 links.now }
-    requires digit { digit < TABLE_SLOTS }
-    ensures { result ≡ map.get (map_of links.now) (slot node digit) }
+// The child of a slot.
+fn child_of(links: &[Link], slot: u64, guess: usize) -> Option<u32>
+    requires { RowsRise 0 links.now }
+    ensures { result ≡ map.get (map_of links.now) slot }
 {
-    match place_of(links, nodes, TABLE_SLOTS * u64::from(node) + digit) {
+    match search(links, slot, guess) {
         Ok(at) => Some(links[at].1),
         Err(_) => None,
     }
 }
 
-/// The place of the first link from a slot on.
+// The place of the first link from a slot on.
 #[inline]
-pub(crate) fn start_of(links: &[Link], nodes: &Nodes, slot: u64) -> usize
+fn start_of(links: &[Link], slot: u64, guess: usize) -> usize
     requires { RowsRise 0 links.now }
     ensures { IsStart links.now slot result }
 {
-    match place_of(links, nodes, slot) {
+    match place_of(links, slot, guess) {
         Ok(at) => at,
         Err(at) => at,
     }
 }
 
-/// The first child of a node from a digit on, with its digit. Links from there on begin at a place.
+// Of the links from two places on the first one, with the places behind it.
 #[inline]
-pub(crate) fn child_from(links: &[Link], node: u32, digit: u64, at: usize) -> Option<(u64, u32)>
-    requires rise { RowsRise 0 links.now }
-    requires start { IsStart links.now (slot node digit) at }
-    ensures { IsNextChild links.now node digit at result }
+fn step(settled: &[Link], recent: &[Link], at: usize, other: usize) -> Option<(Link, usize, usize)>
+    ensures { HasStep settled.now recent.now at other result }
 {
-    if at >= links.len() {
-        return None;
+    if at >= settled.len() {
+        if other >= recent.len() {
+            return None;
+        }
+        return Some((recent[other], at, other + 1));
     }
-    let base = TABLE_SLOTS * u64::from(node);
-    let (slot, child) = links[at];
-    if slot < base + TABLE_SLOTS {
-        Some((slot - base, child))
-    } else {
-        None
+    if other < recent.len() && recent[other].0 < settled[at].0 {
+        return Some((recent[other], at, other + 1));
     }
+    Some((settled[at], at + 1, other))
 }
 
-/// The leaf that holds the pages with the same first three digits, by those digits.
-pub(crate) fn leaf_in(links: &[Link], nodes: &Nodes, above: u64) -> Option<u32>
-    requires rise { RowsRise 0 links.now }
-    ensures { result ≡ node_at (map_of links.now) 3 above }
+// One list of two, by rising slots.
+fn merged(alloc: Global, settled: &[Link], recent: &[Link]) -> Result<Vec<Link>, AllocError>
+    requires settled { RowsRise 0 settled.now }
+    requires recent { RowsRise 0 recent.now }
+    requires apart { AreApart settled.now recent.now }
+    ensures { IfOk result (λ rows. AreMerged settled.now recent.now rows.items) }
 {
-    let first = child_in(
-        links,
-        nodes,
-        0,
-        above / TABLE_SLOTS / TABLE_SLOTS % TABLE_SLOTS,
-    )?;
-    let second = child_in(links, nodes, first, above / TABLE_SLOTS % TABLE_SLOTS)?;
-    child_in(links, nodes, second, above % TABLE_SLOTS)
+    let mut rows = Vec::new(alloc);
+    rows.reserve(settled.len().wrapping_add(recent.len()))?;
+    let mut at = 0;
+    let mut other = 0;
+    'merging: while let Some((link, next, next_other)) = step(settled, recent, at, other) {
+        rows.push(link)?;
+        at = next;
+        other = next_other;
+    }
+    Ok(rows)
 }
 
-/// The slot of a page.
-#[inline]
-pub(crate) fn slot_in(links: &[Link], nodes: &Nodes, page: u64) -> Option<u64>
-    requires rise { RowsRise 0 links.now }
-    ensures { result ≡ page_slot (map_of links.now) page }
-{
-    if page >= TABLE_END {
-        return None;
-    }
-    match leaf_in(links, nodes, page / TABLE_SLOTS) {
-        Some(leaf) => Some(TABLE_SLOTS * u64::from(leaf) + page % TABLE_SLOTS),
-        None => None,
-    }
+/// The children of slots, and room for more.
+#[derive(Debug, Drop)]
+pub(crate) struct LinkMap {
+    // two lists of links by rising slots: a long one, and a short one of those that came last
+    settled: Vec<Link>,
+    recent: Vec<Link>,
+    // how many links may stand before those of each node, in the list where they are: those of a node that was made since the lists
+    // were made one are recent
+    before: Vec<usize>,
+    // so many nodes were there then
+    known: usize,
 }
 
-// The child of a node at a digit, which is made where there is none. There is room for its link.
-fn make_child(links: &mut Vec<Link>, nodes: &mut Nodes, node: u32, digit: u64, runs: usize) -> u32
-    requires tree { IsTree links.old.items }
-    requires node { node < length links.old.items + 1 }
-    requires digit { digit < TABLE_SLOTS }
-    requires upper { IsUpper (map_of links.old.items) node }
-    requires room { length links.old.items < vec_capacity links.old }
-    ensures made { HasChild links.old.items node digit links.new.items result }
-    ensures room { vec_capacity links.old ≤ vec_capacity links.new }
-{
-    let slot = TABLE_SLOTS * u64::from(node) + digit;
-    match place_of(links, nodes, slot) {
-        Ok(at) => links[at].1,
-        Err(at) => {
-            let child = links.len() as u32 + 1;
-            match links.insert(at, (slot, child)) {
-                Ok(()) => {
-                    nodes.add(u64::from(node), links.len(), runs);
-                    child
-                }
-                Err(_) => unreachable!(),
+impl Model for LinkMap {
+    ghost use Rattle.page_table.specs.Links.{Linked};
+    ghost use Rattle.page_table.specs.Codes.{linked_code};
+
+    ghost Value = { Linked };
+
+    ghost coded = { linked_code };
+
+    ghost use Rattle.std.specs.Vec.{vec_capacity};
+    ghost use Rattle.page_table.specs.Links.{AreLinks, seen_links};
+
+    ghost view = { λ l. seen_links l.settled.items l.recent.items (vec_capacity l.recent) };
+
+    ghost invariant = { λ l. AreLinks l.settled.items l.recent.items };
+}
+
+impl LinkMap {
+    /// No link. Takes no memory.
+    pub(crate) fn new(alloc: Global) -> LinkMap
+        ensures { result.children ≡ map.empty }
+    {
+        LinkMap {
+            settled: Vec::new(alloc),
+            recent: Vec::new(alloc),
+            before: Vec::new(alloc),
+            known: 0,
+        }
+    }
+
+    // Whether the node of a slot was made since the lists were made one.
+    #[inline]
+    fn is_new(&self, slot: u64) -> bool {
+        slot / TABLE_SLOTS >= self.known as u64
+    }
+
+    // Where the link of a slot may stand among those that are settled: the last of them, for a new node.
+    #[inline]
+    fn settled_guess(&self, slot: u64, guess: usize) -> usize {
+        if self.is_new(slot) {
+            self.settled.len().wrapping_sub(1)
+        } else {
+            guess
+        }
+    }
+
+    // Where the link of a slot may stand among those that are recent: there is no guess for a node that was there before.
+    #[inline]
+    fn recent_guess(&self, slot: u64) -> usize {
+        if self.is_new(slot) {
+            guess_of(&self.recent, &self.before, slot)
+        } else {
+            usize::MAX
+        }
+    }
+
+    /// The child of a slot.
+    #[inline(always)]
+    pub(crate) fn get(&self, slot: u64) -> Option<u32>
+        ensures { result ≡ map.get self.now.children slot }
+    {
+        let links: &[Link] = &self.settled;
+        let guess = guess_of(links, &self.before, slot);
+        if guess < links.len() {
+            let key = links[guess].0;
+            if key == slot {
+                return Some(links[guess].1);
+            }
+            let other = beside(guess, key, slot);
+            if other < links.len() && links[other].0 == slot {
+                return Some(links[other].1);
+            }
+        }
+        self.search_both(slot, guess)
+    }
+
+    // The same, where the guess for settled links isn't right.
+    #[cold]
+    #[inline(never)]
+    fn search_both(&self, slot: u64, guess: usize) -> Option<u32>
+        ensures { result ≡ map.get self.now.children slot }
+    {
+        if self.is_new(slot) {
+            match child_of(&self.recent, slot, self.recent_guess(slot)) {
+                Some(child) => Some(child),
+                None => child_of(&self.settled, slot, self.settled.len().wrapping_sub(1)),
+            }
+        } else {
+            match child_of(&self.settled, slot, guess) {
+                Some(child) => Some(child),
+                None => child_of(&self.recent, slot, usize::MAX),
             }
         }
     }
-}
 
-// Makes the nodes of a path that aren't there yet. There is room for three links.
-fn make_leaf(links: &mut Vec<Link>, nodes: &mut Nodes, above: u64, runs: usize)
-    requires tree { IsTree links.old.items }
-    requires room { length links.old.items + 3 ≤ vec_capacity links.old }
-    ensures made { HasLeaf links.old.items above links.new.items }
-    ensures room { vec_capacity links.old ≤ vec_capacity links.new }
-{
-    let first = make_child(
-        links,
-        nodes,
-        0,
-        above / TABLE_SLOTS / TABLE_SLOTS % TABLE_SLOTS,
-        runs,
-    );
-    let second = make_child(links, nodes, first, above / TABLE_SLOTS % TABLE_SLOTS, runs);
-    make_child(links, nodes, second, above % TABLE_SLOTS, runs);
-}
+    /// The first slot not below one that has a child, with its child.
+    #[inline]
+    pub(crate) fn next_from(&self, slot: u64) -> Option<Link>
+        ensures { IsNextOne self.now.children slot result }
+    {
+        let links: &[Link] = &self.settled;
+        let guess = guess_of(links, &self.before, slot);
+        if guess < links.len() && links[guess].0 == slot {
+            return Some(links[guess]);
+        }
+        self.next_of_both(slot, guess)
+    }
 
-/// Room for the links to the paths of leaves that lie one after the other: three each.
-pub(crate) fn reserve_leaves(links: &mut Vec<Link>, from: u64, to: u64) -> Result<(), AllocError>
-    requires order { from ≤ to }
-    requires low { to ≤ 2 ^ 27 }
-    ensures items { links.new.items ≡ links.old.items }
-    ensures room { OnOk result (length links.new.items + 3 * (to - from) ≤ vec_capacity links.new) }
-{
-    links.reserve(3 * (to - from) as usize)?;
-    Ok(())
-}
+    // The same, where the guess for settled links isn't right.
+    fn next_of_both(&self, slot: u64, guess: usize) -> Option<Link>
+        ensures { IsNextOne self.now.children slot result }
+    {
+        let at = start_of(&self.settled, slot, self.settled_guess(slot, guess));
+        let other = start_of(&self.recent, slot, self.recent_guess(slot));
+        match step(&self.settled, &self.recent, at, other) {
+            Some((link, _, _)) => Some(link),
+            None => None,
+        }
+    }
 
-/// Makes the nodes of the paths to leaves that lie one after the other. There is room for three links each.
-pub(crate) fn make_leaves(links: &mut Vec<Link>, nodes: &mut Nodes, from: u64, to: u64, runs: usize)
-    requires tree { IsTree links.old.items }
-    requires order { from ≤ to }
-    requires room { length links.old.items + 3 * (to - from) ≤ vec_capacity links.old }
-    ensures made { HaveLeaves links.old.items from to links.new.items }
-    ensures room { vec_capacity links.old ≤ vec_capacity links.new }
-{
-    'making: for above in from..to {
-        make_leaf(links, nodes, above, runs);
+    /// How many links there are.
+    pub(crate) fn len(&self) -> usize
+        ensures { result ≡ map.len self.now.children }
+    {
+        self.settled.len() + self.recent.len()
+    }
+
+    /// Room for so many links more.
+    pub(crate) fn reserve(&mut self, n: usize) -> Result<(), AllocError>
+        ensures children { self.new.children ≡ self.old.children }
+        ensures room { OnOk result (n ≤ self.new.room) }
+    {
+        self.recent.reserve(n)?;
+        self.before.reserve(n.wrapping_add(1))?;
+        Ok(())
+    }
+
+    /// Gives a slot without a child one. There is room for the link.
+    pub(crate) fn insert(&mut self, slot: u64, child: u32)
+        requires free { map.get self.old.children slot ≡ None }
+        requires room { 0 < self.old.room }
+        ensures children { self.new.children ≡ map.insert self.old.children slot child }
+        ensures room { self.old.room ≤ self.new.room + 1 }
+    {
+        let guess = self.recent_guess(slot);
+        let at = start_of(&self.recent, slot, guess);
+        match self.recent.insert(at, (slot, child)) {
+            Ok(()) => {
+                let links = self.recent.len();
+                add_link(&mut self.before, self.known, slot / TABLE_SLOTS, links);
+            }
+            Err(_) => unreachable!(),
+        }
+    }
+
+    /// Makes one list of both, where many links are recent. For want of memory they stay two.
+    pub(crate) fn settle(&mut self)
+        ensures { self.new.children ≡ self.old.children }
+    {
+        if self.recent.len() <= self.settled.len() / SETTLED_PART {
+            return;
+        }
+        let alloc = *self.recent.allocator();
+        match merged(alloc, &self.settled, &self.recent) {
+            Ok(rows) => {
+                self.settled = rows;
+                self.recent = Vec::new(alloc);
+                self.known = self.settled.len().wrapping_add(1);
+                count_links(&mut self.before, &self.settled, self.known);
+            }
+            Err(_) => {}
+        }
+    }
+
+    /// The same links, or want of memory.
+    pub(crate) fn copy(&self) -> Result<LinkMap, AllocError>
+        ensures { IfOk result (λ copy. copy.children ≡ self.now.children) }
+    {
+        let settled = self.settled.clone()?;
+        let recent = self.recent.clone()?;
+        let before = self.before.clone()?;
+        Ok(LinkMap {
+            settled,
+            recent,
+            before,
+            known: self.known,
+        })
     }
 }

@@ -1,17 +1,17 @@
 //! The next pages, leaf by leaf.
 
-ghost use Rattle.std.specs.Prelude.{◌≡◌, ℕ, ◌+◌, ◌*◌, ◌%◌, ◌/◌, ◌^◌, ◌<◌, ◌≤◌, ◌⊎◌, List, Some};
+ghost use Rattle.std.specs.Prelude.{◌≡◌, ◌+◌, ◌*◌, ◌%◌, ◌/◌, ◌^◌, ◌<◌, ◌≤◌, ◌⊎◌, Some};
 ghost use Rattle.sizes.specs.declared.TheConstants.{TABLE_SLOTS};
-ghost use Rattle.number_maps.specs.Rows.{map_of, RowsRise};
-ghost use Rattle.page_table.specs.Nodes.{node_at, pages_by};
+ghost use Rattle.page_table.specs.Nodes.{Links, node_at, pages_by};
 ghost use Rattle.page_table.specs.Kept.{ComeInOrder, IsTree, moved_run, run_pages};
 ghost use Rattle.page_table.specs.Next.{IsUpTo, NoneFrom};
 ghost use Rattle.page_table.specs.Run.{IsNextRun};
 
-use crate::links::{Link, TABLE_END, child_from, start_of};
+use crate::links::LinkMap;
 use crate::nodes::Nodes;
 use crate::run::PageRun;
 use crate::runs::{guess_of, next_slots};
+use crate::tree::{TABLE_END, child_from};
 use sizes::TABLE_SLOTS;
 use std::collections::VecDeque;
 
@@ -37,8 +37,8 @@ fn moved(run: &PageRun, base: u64, begin: u64) -> PageRun
 fn look_in(runs: &VecDeque<PageRun>, nodes: &Nodes, leaf: u32, page: u64) -> Option<PageRun>
     requires rise { ComeInOrder 0 runs.now.items }
     requires low { page < 2 ^ 36 }
-    ensures { (links : List (ℕ × ℕ)) → node_at (map_of links) 3 (page / TABLE_SLOTS) ≡ Some leaf
-        → IsUpTo (pages_by (map_of links) (run_pages runs.now.items)) page
+    ensures { (links : Links) → node_at links 3 (page / TABLE_SLOTS) ≡ Some leaf
+        → IsUpTo (pages_by links (run_pages runs.now.items)) page
         ((page / TABLE_SLOTS + 1) * TABLE_SLOTS) result }
 {
     let base = TABLE_SLOTS * u64::from(leaf);
@@ -67,95 +67,91 @@ pub(crate) fn later(page: u64, other: u64) -> u64
 
 // The first pages not below one that lie in one run and in the leaves of its third node.
 fn look_third(
-    links: &[Link],
+    links: &LinkMap,
     nodes: &Nodes,
     runs: &VecDeque<PageRun>,
     node: u32,
     page: u64,
 ) -> Option<PageRun>
-    requires rise { RowsRise 0 links.now }
     requires order { ComeInOrder 0 runs.now.items }
     requires low { page < 2 ^ 36 }
-    requires node { node_at (map_of links.now) 2 (page / TABLE_SLOTS / TABLE_SLOTS) ≡ Some node }
-    ensures { IsUpTo (pages_by (map_of links.now) (run_pages runs.now.items)) page
+    requires node { node_at links.now.children 2 (page / TABLE_SLOTS / TABLE_SLOTS) ≡ Some node }
+    ensures { IsUpTo (pages_by links.now.children (run_pages runs.now.items)) page
         ((page / TABLE_SLOTS / TABLE_SLOTS + 1) * TABLE_SLOTS * TABLE_SLOTS) result }
 {
     let front = page / TABLE_SLOTS / TABLE_SLOTS * TABLE_SLOTS;
     let mut digit = page / TABLE_SLOTS % TABLE_SLOTS;
-    let mut at = start_of(links, nodes, TABLE_SLOTS * u64::from(node) + digit);
-    'looking: while let Some((next, leaf)) = child_from(links, node, digit, at) {
+    'looking: while let Some((next, leaf)) = child_from(links, node, digit) {
         let from = later(page, (front + next) * TABLE_SLOTS);
         match look_in(runs, nodes, leaf, from) {
             Some(run) => return Some(run),
             None => {}
         }
         digit = next + 1;
-        at += 1;
     }
     None
 }
 
 // The same in the leaves below its second node.
 fn look_second(
-    links: &[Link],
+    links: &LinkMap,
     nodes: &Nodes,
     runs: &VecDeque<PageRun>,
     node: u32,
     page: u64,
 ) -> Option<PageRun>
-    requires rise { RowsRise 0 links.now }
     requires order { ComeInOrder 0 runs.now.items }
     requires low { page < 2 ^ 36 }
-    requires node { node_at (map_of links.now) 1 (page / TABLE_SLOTS / TABLE_SLOTS / TABLE_SLOTS) ≡ Some node }
-    ensures { IsUpTo (pages_by (map_of links.now) (run_pages runs.now.items)) page
+    requires node { node_at links.now.children 1 (page / TABLE_SLOTS / TABLE_SLOTS / TABLE_SLOTS) ≡ Some node }
+    ensures { IsUpTo (pages_by links.now.children (run_pages runs.now.items)) page
         ((page / TABLE_SLOTS / TABLE_SLOTS / TABLE_SLOTS + 1) * TABLE_SLOTS * TABLE_SLOTS * TABLE_SLOTS) result }
 {
     let front = page / TABLE_SLOTS / TABLE_SLOTS / TABLE_SLOTS * TABLE_SLOTS;
     let mut digit = page / TABLE_SLOTS / TABLE_SLOTS % TABLE_SLOTS;
-    let mut at = start_of(links, nodes, TABLE_SLOTS * u64::from(node) + digit);
-    'looking: while let Some((next, third)) = child_from(links, node, digit, at) {
+    'looking: while let Some((next, third)) = child_from(links, node, digit) {
         let from = later(page, (front + next) * TABLE_SLOTS * TABLE_SLOTS);
         match look_third(links, nodes, runs, third, from) {
             Some(run) => return Some(run),
             None => {}
         }
         digit = next + 1;
-        at += 1;
     }
     None
 }
 
 // The same in all leaves.
-fn look_first(links: &[Link], nodes: &Nodes, runs: &VecDeque<PageRun>, page: u64) -> Option<PageRun>
-    requires rise { RowsRise 0 links.now }
+fn look_first(
+    links: &LinkMap,
+    nodes: &Nodes,
+    runs: &VecDeque<PageRun>,
+    page: u64,
+) -> Option<PageRun>
     requires order { ComeInOrder 0 runs.now.items }
     requires low { page < 2 ^ 36 }
-    ensures { IsUpTo (pages_by (map_of links.now) (run_pages runs.now.items)) page (2 ^ 36) result }
+    ensures { IsUpTo (pages_by links.now.children (run_pages runs.now.items)) page (2 ^ 36) result }
 {
     let mut digit = page / TABLE_SLOTS / TABLE_SLOTS / TABLE_SLOTS;
-    let mut at = start_of(links, nodes, digit);
-    'looking: while let Some((next, second)) = child_from(links, 0, digit, at) {
+    'looking: while let Some((next, second)) = child_from(links, 0, digit) {
         let from = later(page, next * TABLE_SLOTS * TABLE_SLOTS * TABLE_SLOTS);
         match look_second(links, nodes, runs, second, from) {
             Some(run) => return Some(run),
             None => {}
         }
         digit = next + 1;
-        at += 1;
     }
     None
 }
 
 /// The first pages not below one: as many as lie in one leaf and one run.
 pub(crate) fn next_in(
-    links: &[Link],
+    links: &LinkMap,
     nodes: &Nodes,
     runs: &VecDeque<PageRun>,
     page: u64,
 ) -> Option<PageRun>
-    requires tree { IsTree links.now }
+    requires tree { IsTree links.now.children }
     requires rise { ComeInOrder 0 runs.now.items }
-    ensures { IsNextRun (pages_by (map_of links.now) (run_pages runs.now.items)) page result }
+    ensures { IsNextRun (pages_by links.now.children (run_pages runs.now.items)) page result }
 {
     if page >= TABLE_END {
         return None;
@@ -164,11 +160,11 @@ pub(crate) fn next_in(
 }
 
 /// The first page, or where there is none a page below which there is none, as there is none below another.
-pub(crate) fn least_in(links: &[Link], nodes: &Nodes, runs: &VecDeque<PageRun>, front: u64) -> u64
-    requires tree { IsTree links.now }
+pub(crate) fn least_in(links: &LinkMap, nodes: &Nodes, runs: &VecDeque<PageRun>, front: u64) -> u64
+    requires tree { IsTree links.now.children }
     requires rise { ComeInOrder 0 runs.now.items }
-    requires none { NoneFrom (pages_by (map_of links.now) (run_pages runs.now.items)) 0 front }
-    ensures { NoneFrom (pages_by (map_of links.now) (run_pages runs.now.items)) 0 result }
+    requires none { NoneFrom (pages_by links.now.children (run_pages runs.now.items)) 0 front }
+    ensures { NoneFrom (pages_by links.now.children (run_pages runs.now.items)) 0 result }
 {
     match next_in(links, nodes, runs, front) {
         Some(run) => run.page,

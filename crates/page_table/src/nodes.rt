@@ -2,6 +2,7 @@
 //!
 //! No contract speaks of them. Who goes by a guess looks whether it is so, and where it isn't, looks on.
 
+use crate::links::Link;
 use sizes::TABLE_SLOTS;
 use std::alloc::{AllocError, Global};
 
@@ -60,16 +61,9 @@ impl Rows {
     }
 }
 
-/// The nodes of a table, by number: how many links stand before those of each, and how many runs.
-#[derive(Debug, Drop)]
-pub(crate) struct Nodes {
-    links: Vec<usize>,
-    runs: Vec<usize>,
-}
-
-// The rows of a node, by how many stand before those of each: so many in all.
+/// The rows of a node, by how many may stand before those of each: so many in all.
 #[inline]
-fn rows_of(before: &[usize], node: u64, len: usize) -> Rows {
+pub(crate) fn rows_of(before: &[usize], node: u64, len: usize) -> Rows {
     match before.get(node as usize) {
         Some(&first) => match before.get((node as usize).wrapping_add(1)) {
             Some(&end) => Rows::new(first, end),
@@ -96,18 +90,43 @@ fn push(before: &mut Vec<usize>, rows: usize) {
     }
 }
 
+/// A node has one link more, to a new node, in a list that then has so many. The guesses of nodes from `known` on are of that list.
+pub(crate) fn add_link(before: &mut Vec<usize>, known: usize, parent: u64, links: usize) {
+    if before.len() == 0 {
+        push(before, 0);
+    }
+    let first = (parent as usize).wrapping_add(1).max(known);
+    'moving: for at in first..before.len() {
+        before[at] = before[at].wrapping_add(1);
+    }
+    push(before, links);
+}
+
+/// Counts the links before those of each of so many nodes anew.
+pub(crate) fn count_links(before: &mut Vec<usize>, links: &[Link], nodes: usize) {
+    before.clear();
+    'counting: for at in 0..links.len() {
+        let node = links[at].0 / TABLE_SLOTS;
+        'filling: for _ in before.len() as u64..node.wrapping_add(1) {
+            push(before, at);
+        }
+    }
+    'ending: for _ in before.len()..nodes {
+        push(before, links.len());
+    }
+}
+
+/// The nodes of a table, by number: how many runs may stand before those of each.
+#[derive(Debug, Drop)]
+pub(crate) struct Nodes {
+    runs: Vec<usize>,
+}
+
 impl Nodes {
     pub(crate) fn new(alloc: Global) -> Nodes {
         Nodes {
-            links: Vec::new(alloc),
             runs: Vec::new(alloc),
         }
-    }
-
-    /// Where the links of a node may stand, among so many.
-    #[inline]
-    pub(crate) fn links_of(&self, node: u64, len: usize) -> Rows {
-        rows_of(&self.links, node, len)
     }
 
     /// Where the runs of a node may stand, among so many.
@@ -118,19 +137,15 @@ impl Nodes {
 
     /// Room for n nodes more, and the first one.
     pub(crate) fn make_room(&mut self, n: usize) -> Result<(), AllocError> {
-        self.links.reserve(n.wrapping_add(1))?;
         self.runs.reserve(n.wrapping_add(1))?;
         Ok(())
     }
 
-    /// A node has one link more, to a new node behind so many links and runs.
-    pub(crate) fn add(&mut self, parent: u64, links: usize, runs: usize) {
-        if self.links.len() == 0 {
-            push(&mut self.links, 0);
+    /// There is a new node behind so many runs.
+    pub(crate) fn add(&mut self, runs: usize) {
+        if self.runs.len() == 0 {
             push(&mut self.runs, 0);
         }
-        move_rows(&mut self.links, parent, 1);
-        push(&mut self.links, links);
         push(&mut self.runs, runs);
     }
 
@@ -142,8 +157,7 @@ impl Nodes {
     }
 
     pub(crate) fn copy(&self) -> Result<Nodes, AllocError> {
-        let links = self.links.clone()?;
         let runs = self.runs.clone()?;
-        Ok(Nodes { links, runs })
+        Ok(Nodes { runs })
     }
 }

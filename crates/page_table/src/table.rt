@@ -7,12 +7,13 @@ ghost use Rattle.page_table.specs.Run.{IsNextRun};
 ghost use Rattle.page_table.specs.Table.{IsFree, AreThere, IsMapped, IsUnmapped, IsNext};
 
 use crate::entry::PageEntry;
-use crate::links::{Link, child_in, make_leaves, reserve_leaves, slot_in};
+use crate::links::LinkMap;
 use crate::next::{later, least_in, next_in};
 use crate::nodes::Nodes;
 use crate::paths::{clear_paths, fill_paths};
 use crate::run::PageRun;
 use crate::runs::{entry_in, guess_of, set_page};
+use crate::tree::{child_in, make_leaves, reserve_leaves, slot_in};
 use ovl_io::Perms;
 use page_set::PageSet;
 use sizes::TABLE_SLOTS;
@@ -23,11 +24,11 @@ use std::marker::Model;
 /// Entries by page number, below four levels of nodes. Pages are below 2^36, and fewer than 2^32.
 #[derive(Debug, Drop)]
 pub struct PageTable {
-    // the children of slots, by rising slots: each node but the first has one link to it
-    links: Vec<Link>,
+    // the children of slots: each node but the first has one link to it
+    links: LinkMap,
     // the entries of slots, by rising slots, with room for as many as there are pages
     runs: VecDeque<PageRun>,
-    // where the links and runs of each node may stand
+    // where the runs of each node may stand
     nodes: Nodes,
     count: u32,
     // no page is below this one
@@ -67,9 +68,9 @@ impl Model for PageTable {
     ghost use Rattle.std.specs.VecDeque.{deque_capacity};
     ghost use Rattle.page_table.specs.Kept.{IsPageTable, seen_table};
 
-    ghost view = { λ t. seen_table t.links.items t.runs.items t.overlaid.chunks };
+    ghost view = { λ t. seen_table t.links.children t.runs.items t.overlaid.chunks };
 
-    ghost invariant = { λ t. IsPageTable t.links.items t.runs.items t.count (deque_capacity t.runs) t.front t.overlaid };
+    ghost invariant = { λ t. IsPageTable t.links.children t.runs.items t.count (deque_capacity t.runs) t.front t.overlaid };
 }
 
 impl PageTable {
@@ -79,7 +80,7 @@ impl PageTable {
         ensures overlaid { result.overlaid ≡ map.empty }
     {
         PageTable {
-            links: Vec::new(alloc),
+            links: LinkMap::new(alloc),
             runs: VecDeque::new(alloc),
             nodes: Nodes::new(alloc),
             count: 0,
@@ -91,7 +92,8 @@ impl PageTable {
     /// Gives each of the `n` pages from `from` on, which aren't there yet, an entry of these permissions
     /// and this frame. Pages end at 2^36, and afterwards there are fewer than 2^32. Makes the nodes of their paths first, where they
     /// aren't there yet. After want of memory the table is as before. Costs for each of their leaves a look-up, a step for each run
-    /// that lies behind its pages, or before them where those are fewer, and for a new node one for each link behind the one to it.
+    /// that lies behind its pages, or before them where those are fewer, and for a new node some 32 steps and one for each link of
+    /// those that came last.
     pub fn map_pages(
         &mut self,
         from: u64,
@@ -149,7 +151,7 @@ impl PageTable {
         ensures entry { self.new.pages ≡ map.insert self.old.pages page e }
         ensures overlaid { self.new.overlaid ≡ self.old.overlaid }
     {
-        match slot_in(&self.links, &self.nodes, page) {
+        match slot_in(&self.links, page) {
             Some(slot) => {
                 let before = self.runs.len();
                 let guess = guess_of(&self.runs, &self.nodes, slot);
@@ -182,7 +184,7 @@ impl PageTable {
     pub fn get(&self, page: u64) -> Option<PageEntry>
         ensures { result ≡ map.get self.now.pages page }
     {
-        match slot_in(&self.links, &self.nodes, page) {
+        match slot_in(&self.links, page) {
             Some(slot) => entry_in(&self.runs, slot, guess_of(&self.runs, &self.nodes, slot)),
             None => None,
         }
@@ -223,7 +225,7 @@ impl PageTable {
     pub fn copy(&self) -> Result<PageTable, AllocError>
         ensures { IfOk result (λ copy. copy ≡ self.now) }
     {
-        let links = self.links.clone()?;
+        let links = self.links.copy()?;
         let mut runs = self.runs.clone()?;
         runs.reserve(self.count as usize - runs.len())?;
         let overlaid = self.overlaid.copy(self.count)?;
@@ -286,7 +288,7 @@ impl PageTable {
         ensures child { result ≡ map.get self.now.links (slot node digit) }
         ensures low { IfSome result (λ child. child < nodes_of self.now) }
     {
-        child_in(&self.links, &self.nodes, node, u64::from(digit))
+        child_in(&self.links, node, u64::from(digit))
     }
 
     /// The entry of a node at a digit. None exactly where it has none there.

@@ -1,6 +1,6 @@
 use Rattle.std.proofs.Common.{◌<◌, length, arith}
 use Rattle.number_maps.specs.RowLaws.{key_of}
-use Rattle.page_table.proofs.Trees.{above_here, below_here, gap_here}
+use Rattle.page_table.proofs.Both.{above_here, below_here, gap_here}
 use Rattle.page_table.proofs.links.search.Goals as goal
 use Rattle.page_table.proofs.links.search.Goals.{then-key-slot-2, else-key-slot-2}
 

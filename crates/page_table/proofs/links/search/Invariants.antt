@@ -1,5 +1,5 @@
 use Rattle.std.proofs.Common.{◌-◌, ◌≤◌, length}
-use Rattle.page_table.proofs.Trees.{AllAbove, AllBelow}
+use Rattle.page_table.proofs.Both.{AllAbove, AllBelow}
 use Rattle.page_table.proofs.links.search.Given as goal
 
 abbrev pub invariant-looking : goal.invariant-looking

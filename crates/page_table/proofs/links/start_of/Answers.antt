@@ -1,4 +1,4 @@
-use Rattle.page_table.proofs.Nexts.{start_at, start_gap}
+use Rattle.page_table.proofs.Both.{start_at, start_gap}
 use Rattle.page_table.proofs.links.start_of.Goals as goal
 
 pub returns-in-Ok : goal.returns-in-Ok

@@ -1,4 +1,3 @@
-use Rattle.number_maps.specs.Rows.{map_of}
 use Rattle.page_table.specs.Nodes.{pages_by}
 use Rattle.page_table.specs.Kept.{run_pages}
 use Rattle.page_table.proofs.Fronts.{none_least}
@@ -6,4 +5,4 @@ use Rattle.page_table.proofs.next.least_in.Goals as goal
 
 pub returns-in-Some : goal.returns-in-Some
 returns-in-Some c =
-    none_least (pages_by (map_of c.args.links.now) (run_pages c.args.runs.now.items)) c.args.front c.in-Some.run' c.requires.none c.in-Some.ensures
+    none_least (pages_by c.args.links.now.children (run_pages c.args.runs.now.items)) c.args.front c.in-Some.run' c.requires.none c.in-Some.ensures

@@ -1,14 +1,13 @@
-use Rattle.std.proofs.Common.{◌+◌, ◌-◌, ◌*◌, ◌/◌, ◌%◌, ◌≤◌, length}
-use Rattle.number_maps.specs.Rows.{map_of}
-use Rattle.page_table.specs.Nodes.{pages_by, slot}
-use Rattle.page_table.specs.Kept.{IsStart, run_pages}
+use Rattle.std.proofs.Common.{◌+◌, ◌-◌, ◌*◌, ◌/◌, ◌%◌, ◌≤◌}
+use Rattle.page_table.specs.Nodes.{pages_by}
+use Rattle.page_table.specs.Kept.{run_pages}
 use Rattle.page_table.specs.Next.{NoneFrom}
 use Rattle.page_table.proofs.next.look_third.Given as goal
 
 abbrev pub invariant-looking : goal.invariant-looking
 invariant-looking l =
-    (l.page / 512 % 512 ≤ l.digit) × (l.digit ≤ 512) × IsStart l.links (slot l.node l.digit) l.at
-    × NoneFrom (pages_by (map_of l.links) (run_pages l.runs.items)) l.page ((l.page / 512 / 512 * 512 + l.digit) * 512)
+    (l.page / 512 % 512 ≤ l.digit) × (l.digit ≤ 512)
+    × NoneFrom (pages_by l.links.children (run_pages l.runs.items)) l.page ((l.page / 512 / 512 * 512 + l.digit) * 512)
 
 abbrev pub decreases-looking : goal.decreases-looking
-decreases-looking l = length l.links - l.at
+decreases-looking l = 512 - l.digit

@@ -1,7 +1,6 @@
 use Rattle.std.proofs.Common.{ℕ, ◌+◌, ◌-◌, ◌/◌, List, ap, subst, sym, ◌∙◌, refl, arith}
-use Rattle.number_maps.specs.Rows.{map_of}
 use Rattle.page_table.specs.declared.run.PageRun.{PageRun}
-use Rattle.page_table.specs.Kept.{HaveFilled, HaveLeaves, HavePaths, run_pages}
+use Rattle.page_table.specs.Kept.{HaveFilled, HaveLeaves, run_pages}
 use Rattle.page_table.specs.Nodes.{pages_by}
 use Rattle.page_table.specs.Table.{IsFree}
 use Rattle.page_table.specs.Laws.{one_mapped_at}
@@ -13,18 +12,16 @@ use Rattle.page_table.proofs.table.PageTable.map_pages.Goals as goal
 use Rattle.page_table.proofs.table.PageTable.map_pages.Goals.{After-make_leaves, After-fill_paths}
 
 -- the nodes that were made, and the pages that were filled, as changes of what the table had
-made : (c : After-make_leaves) → HaveLeaves c.self.inside.links.items (c.args.from / 512) ((c.args.from + c.from.result - 1) / 512 + 1) c.make_leaves.new.links.items
+made : (c : After-make_leaves) → HaveLeaves c.self.inside.links.children (c.args.from / 512) ((c.args.from + c.from.result - 1) / 512 + 1) c.make_leaves.new.links.children
 made c =
-    subst (λ l. HaveLeaves l (c.args.from / 512) ((c.args.from + c.from.result - 1) / 512 + 1) c.make_leaves.new.links.items)
-    c.in_ok-reserve_leaves.ensures.items c.make_leaves.ensures.made
+    subst (λ l. HaveLeaves l (c.args.from / 512) ((c.args.from + c.from.result - 1) / 512 + 1) c.make_leaves.new.links.children)
+    c.in_ok-reserve_leaves.ensures.children c.make_leaves.ensures
 
-filled : (c : After-fill_paths) → HaveFilled c.make_leaves.new.links.items c.self.inside.runs.items c.args.from c.args.n
+filled : (c : After-fill_paths) → HaveFilled c.make_leaves.new.links.children c.self.inside.runs.items c.args.from c.args.n
     (record { perms = c.args.perms; frame = c.args.frame }) c.fill_paths.new.runs.items
 filled c =
-    subst (λ l. HaveFilled l c.self.inside.runs.items c.args.from c.args.n (record { perms = c.args.perms; frame = c.args.frame }) c.fill_paths.new.runs.items)
-    c.deref.ensures.value
-    (subst (λ (r : List PageRun). HaveFilled c.deref.result.now r c.args.from c.args.n (record { perms = c.args.perms; frame = c.args.frame }) c.fill_paths.new.runs.items)
-    c.in_ok-reserve.ensures.items c.fill_paths.ensures.filled)
+    subst (λ (r : List PageRun). HaveFilled c.make_leaves.new.links.children r c.args.from c.args.n (record { perms = c.args.perms; frame = c.args.frame }) c.fill_paths.new.runs.items)
+    c.in_ok-reserve.ensures.items c.fill_paths.ensures.filled
 
 pub overflow_sub-spare : goal.overflow_sub-spare
 overflow_sub-spare c =
@@ -34,16 +31,14 @@ overflow_sub-spare c =
 pub fill_paths-requires-clause-paths : goal.fill_paths-requires-clause-paths
 fill_paths-requires-clause-paths c =
     let here = (goal.at.fill_paths-requires-clause-paths c).After-make_leaves in
-    subst (λ l. HavePaths (map_of l) c.args.from c.args.n) (sym c.deref.ensures.value)
-    (have_paths c.self.inside.links.items c.make_leaves.new.links.items c.args.from c.args.n (c.args.from / 512) ((c.args.from + c.from.result - 1) / 512 + 1)
-    (made here) refl (ap (λ (n : ℕ). (c.args.from + n - 1) / 512 + 1) c.from.ensures) c.requires.low)
+    have_paths c.self.inside.links.children c.make_leaves.new.links.children c.args.from c.args.n (c.args.from / 512) ((c.args.from + c.from.result - 1) / 512 + 1)
+    (made here) refl (ap (λ (n : ℕ). (c.args.from + n - 1) / 512 + 1) c.from.ensures) c.requires.low
 
 pub fill_paths-requires-clause-free : goal.fill_paths-requires-clause-free
 fill_paths-requires-clause-free c =
     let here = (goal.at.fill_paths-requires-clause-free c).After-make_leaves in
-    let same = ap (λ l. pages_by (map_of l) (run_pages c.reserve.new.self.items)) c.deref.ensures.value
-    ∙ ap (λ (r : List PageRun). pages_by (map_of c.make_leaves.new.links.items) (run_pages r)) c.in_ok-reserve.ensures.items
-    ∙ grown_pages c.args.self.now c.self.inside.links.items c.make_leaves.new.links.items c.self.inside.runs.items c.self.inside.count _ c.self.view_is
+    let same = ap (λ (r : List PageRun). pages_by c.make_leaves.new.links.children (run_pages r)) c.in_ok-reserve.ensures.items
+    ∙ grown_pages c.args.self.now c.self.inside.links.children c.make_leaves.new.links.children c.self.inside.runs.items c.self.inside.count _ c.self.view_is
     c.self.invariant.held (made here).grown in
     subst (λ m. IsFree m c.args.from c.args.n) (sym same) c.requires.free
 
@@ -52,7 +47,7 @@ invariant_of-self-2 c =
     let here = (goal.at.invariant_of-self-2 c).After-fill_paths in
     let before = (goal.at.invariant_of-self-2 c).After-make_leaves in
     record {
-      held = held_mapped c.args.self.now c.self.inside.links.items c.make_leaves.new.links.items c.self.inside.runs.items c.fill_paths.new.runs.items
+      held = held_mapped c.args.self.now c.self.inside.links.children c.make_leaves.new.links.children c.self.inside.runs.items c.fill_paths.new.runs.items
           c.self.inside.count _ _ c.args.from c.args.n (record { perms = c.args.perms; frame = c.args.frame }) c.self.view_is c.self.invariant.held (made before).grown
           (filled here) c.requires.free c.requires.few
           (omega (
@@ -65,27 +60,27 @@ invariant_of-self-2 c =
             length_total 0 c.self.inside.runs.items c.self.invariant.held.kept.rise,
             c.self.inside.runs.ok.0,
           ));
-      none = front_mapped c.args.self.now.pages (pages_by (map_of c.make_leaves.new.links.items) (run_pages c.fill_paths.new.runs.items)) c.self.inside.front
+      none = front_mapped c.args.self.now.pages (pages_by c.make_leaves.new.links.children (run_pages c.fill_paths.new.runs.items)) c.self.inside.front
           c.sooner-self-inside.result c.args.from c.args.n (record { perms = c.args.perms; frame = c.args.frame })
-          (front_seen c.args.self.now c.self.inside.links.items c.self.inside.runs.items c.self.inside.front c.self.view_is c.self.invariant.none)
-          (mapped_table c.args.self.now c.self.inside.links.items c.make_leaves.new.links.items c.self.inside.runs.items c.fill_paths.new.runs.items
+          (front_seen c.args.self.now c.self.inside.links.children c.self.inside.runs.items c.self.inside.front c.self.view_is c.self.invariant.none)
+          (mapped_table c.args.self.now c.self.inside.links.children c.make_leaves.new.links.children c.self.inside.runs.items c.fill_paths.new.runs.items
           c.self.inside.count _ c.args.from c.args.n (record { perms = c.args.perms; frame = c.args.frame }) c.self.view_is c.self.invariant.held
           (made before).grown (filled here))
           c.sooner-self-inside.ensures.page c.sooner-self-inside.ensures.other;
-      overlaid = overlaid_mapped c.args.self.now.pages (pages_by (map_of c.make_leaves.new.links.items) (run_pages c.fill_paths.new.runs.items))
+      overlaid = overlaid_mapped c.args.self.now.pages (pages_by c.make_leaves.new.links.children (run_pages c.fill_paths.new.runs.items))
           c.self.inside.overlaid c.reserve-2.new.self
-          (overlaid_seen c.args.self.now c.self.inside.links.items c.self.inside.runs.items c.self.inside.overlaid c.self.view_is
+          (overlaid_seen c.args.self.now c.self.inside.links.children c.self.inside.runs.items c.self.inside.overlaid c.self.view_is
           c.self.invariant.overlaid)
           c.args.from c.args.n (c.self.inside.count + c.args.n) (record { perms = c.args.perms; frame = c.args.frame })
-          (mapped_table c.args.self.now c.self.inside.links.items c.make_leaves.new.links.items c.self.inside.runs.items c.fill_paths.new.runs.items
+          (mapped_table c.args.self.now c.self.inside.links.children c.make_leaves.new.links.children c.self.inside.runs.items c.fill_paths.new.runs.items
           c.self.inside.count _ c.args.from c.args.n (record { perms = c.args.perms; frame = c.args.frame }) c.self.view_is c.self.invariant.held
           (made before).grown (filled here))
           c.in_ok-reserve-2.ensures.chunks c.in_ok-reserve-2.ensures.are
-          (mapped_len c.args.self.now c.self.inside.links.items c.make_leaves.new.links.items c.self.inside.runs.items c.fill_paths.new.runs.items
+          (mapped_len c.args.self.now c.self.inside.links.children c.make_leaves.new.links.children c.self.inside.runs.items c.fill_paths.new.runs.items
           c.self.inside.count _ c.args.from c.args.n (record { perms = c.args.perms; frame = c.args.frame }) c.self.view_is c.self.invariant.held
           (made before).grown (filled here) c.requires.free
           ∙ ap (λ (k : ℕ). k + c.args.n)
-          (sym (pages_counted c.args.self.now c.self.inside.links.items c.self.inside.runs.items c.self.inside.count _ c.self.view_is c.self.invariant.held)))
+          (sym (pages_counted c.args.self.now c.self.inside.links.children c.self.inside.runs.items c.self.inside.count _ c.self.view_is c.self.invariant.held)))
           c.in_ok-reserve-2.ensures.room;
     }
 
@@ -93,7 +88,7 @@ pub returns-clause-mapped : goal.returns-clause-mapped
 returns-clause-mapped c =
     let here = (goal.at.returns-clause-mapped c).After-fill_paths in
     let before = (goal.at.returns-clause-mapped c).After-make_leaves in
-    mapped_table c.args.self.now c.self.inside.links.items c.make_leaves.new.links.items c.self.inside.runs.items c.fill_paths.new.runs.items
+    mapped_table c.args.self.now c.self.inside.links.children c.make_leaves.new.links.children c.self.inside.runs.items c.fill_paths.new.runs.items
     c.self.inside.count _ c.args.from c.args.n (record { perms = c.args.perms; frame = c.args.frame }) c.self.view_is c.self.invariant.held (made before).grown
     (filled here)
 
@@ -101,9 +96,9 @@ pub returns-clause-one : goal.returns-clause-one
 returns-clause-one c is =
     let here = (goal.at.returns-clause-one c).After-fill_paths in
     let before = (goal.at.returns-clause-one c).After-make_leaves in
-    one_mapped_at c.args.self.now.pages (pages_by (map_of c.make_leaves.new.links.items) (run_pages c.fill_paths.new.runs.items)) c.args.from c.args.n
+    one_mapped_at c.args.self.now.pages (pages_by c.make_leaves.new.links.children (run_pages c.fill_paths.new.runs.items)) c.args.from c.args.n
     (record { perms = c.args.perms; frame = c.args.frame }) is
-    (mapped_table c.args.self.now c.self.inside.links.items c.make_leaves.new.links.items c.self.inside.runs.items c.fill_paths.new.runs.items
+    (mapped_table c.args.self.now c.self.inside.links.children c.make_leaves.new.links.children c.self.inside.runs.items c.fill_paths.new.runs.items
     c.self.inside.count _ c.args.from c.args.n (record { perms = c.args.perms; frame = c.args.frame }) c.self.view_is c.self.invariant.held (made before).grown
     (filled here))
 
@@ -111,6 +106,6 @@ pub returns-clause-count : goal.returns-clause-count
 returns-clause-count c =
     let here = (goal.at.returns-clause-count c).After-fill_paths in
     let before = (goal.at.returns-clause-count c).After-make_leaves in
-    mapped_len c.args.self.now c.self.inside.links.items c.make_leaves.new.links.items c.self.inside.runs.items c.fill_paths.new.runs.items
+    mapped_len c.args.self.now c.self.inside.links.children c.make_leaves.new.links.children c.self.inside.runs.items c.fill_paths.new.runs.items
     c.self.inside.count _ c.args.from c.args.n (record { perms = c.args.perms; frame = c.args.frame }) c.self.view_is c.self.invariant.held (made before).grown
     (filled here) c.requires.free
