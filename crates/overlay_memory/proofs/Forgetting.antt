@@ -1,5 +1,5 @@
-use Rattle.std.proofs.Common.{◌≡◌, ℕ, zero, suc, ◌<◌, ◌≤◌, true, false, cond, nat_eq, List, [], ◌∷◌, length, get_or, replicate, Option, None, sym, ap, subst, ◌∙◌, refl, arith}
-use Rattle.std.specs.Prelude.{slice_set}
+use Rattle.std.proofs.Common.{◌≡◌, ℕ, zero, suc, ◌<◌, ◌≤◌, true, false, cond, nat_eq, List, [], ◌∷◌, length, get_or, replicate, Option, None, Some, Bor, sym, ap, subst, ◌∙◌, refl, arith}
+use Rattle.std.specs.Prelude.{slice_set, IfSome}
 use Rattle.std.specs.List.{All}
 use Rattle.std.proofs.lemmas.Bool.Decides.{nat_tests}
 use Rattle.std.proofs.lemmas.List.{get_or-map, length-replicate, map-set}
@@ -45,6 +45,13 @@ unfolding known_in
 page_known epoch places place known inside is same =
     let now : nat_eq known.epoch epoch ≡ true = grind (arith, nat_tests) in
     get_or-map (known_in epoch) places place known None inside ∙ ap (known_in epoch) is ∙ ap (λ b. cond b known.found None) now
+
+-- which is a page, where it is that of a number and a space
+pub same_known : (seen : Option FoundPage) (known : FoundPage) (s p : ℕ) (result : Option (Bor FoundPage)) → seen ≡ Some known
+    → IfSome result (λ found. (found.now.space ≡ s) × (found.now.page ≡ p) × (known ≡ found.now))
+    → IfSome result (λ found. (found.now.space ≡ s) × (found.now.page ≡ p) × (seen ≡ Some found.now))
+same_known seen known s p None is same = same
+same_known seen known s p (Some found) is same = (same.0, same.1, is ∙ ap Some same.2)
 
 pub put_known : (epoch : ℕ) (places : List Known) (place : ℕ) (found : Option FoundPage)
     → known_pages epoch (slice_set places place (record { found = found; epoch = epoch })) ≡ slice_set (known_pages epoch places) place found

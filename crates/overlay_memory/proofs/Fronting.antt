@@ -1,7 +1,7 @@
-use Rattle.std.proofs.Common.{◌≡◌, ℕ, zero, suc, ◌*◌, ◌/◌, ◌%◌, true, List, take, drop, length, get_or, replicate, Option, Some, None, is_some, sym, ap, subst, ◌∙◌, refl, arith}
+use Rattle.std.proofs.Common.{◌≡◌, ℕ, zero, suc, ◌<◌, ◌*◌, ◌/◌, ◌%◌, true, List, take, drop, length, get_or, replicate, Option, Some, None, is_some, sym, ap, subst, ◌∙◌, refl, arith}
 use Rattle.std.proofs.lemmas.Option.{none-some}
 use Rattle.sizes.specs.declared.TheConstants.{LINE_BYTES, PAGE_BYTES, PAGE_LINES}
-use Rattle.std.specs.Prelude.{slice_set, false}
+use Rattle.std.specs.Prelude.{slice_set, false, unwrap_or}
 use Rattle.std.specs.Option.{option_map}
 use Rattle.std.specs.FinMap.{get}
 use Rattle.std.proofs.lemmas.List.{get_or-set_other, get_or-set_same, length-set, take_all}
@@ -22,12 +22,13 @@ use Rattle.overlay_memory.specs.StateMemory.{memory_at}
 use Rattle.overlay_memory.specs.View.{AreTrue, cached_in, cached_page, cached_view}
 use Rattle.overlay_memory.specs.declared.fronts.Fronts.{Fronts}
 use Rattle.overlay_memory.specs.declared.epochs.TheConstants.{SEEN_PAGES}
-use Rattle.overlay_pages.specs.Spots.{FindsPage, IsBroughtTo, IsFoundAt, IsFoundPage, IsFoundPageAt}
+use Rattle.overlay_pages.specs.Spots.{FindsPage, IsBroughtTo, IsFoundAt, IsFoundPage, IsFoundPageAt, no_page}
 use Rattle.overlay_pages.specs.State.{PageState, State, memory_of, seen_page}
 use Rattle.overlay_pages.specs.View.{IsJoined, MemoryView, page_state, state_of}
 use Rattle.overlay_pages.specs.ViewLaws.{state_page_there}
 use Rattle.overlay_pages.specs.declared.spots.FoundLine.{FoundLine}
 use Rattle.overlay_pages.specs.declared.spots.FoundPage.{FoundPage}
+use Rattle.overlay_pages.specs.declared.spots.TheConstants.{NO_PAGE}
 use Rattle.space_ledger.specs.View.{LedgerView}
 use Rattle.space_maps.specs.Options.{map_twice}
 use Rattle.space_maps.specs.Spaces.{page_in}
@@ -43,19 +44,23 @@ use Rattle.translation_cache.specs.declared.cached.Cached.{Cached}
 -- What is known of pages at the front of their lists, and of those that were found before, stays true.
 
 -- nothing is
-none_at : (n set : ℕ) → get_or {A = Option FoundPage} (replicate n None) set None ≡ None
-none_at zero set = refl
-none_at (suc n) zero = refl
-none_at (suc n) (suc set) = none_at n set
+all_alike : {A : Type 0} (x : A) (n set : ℕ) → get_or (replicate n x) set x ≡ x
+all_alike x zero set = refl
+all_alike x (suc n) zero = refl
+all_alike x (suc n) (suc set) = all_alike x n set
+
+-- and what stands for no page says nothing
+none_low : {P : Type 0} (found : FoundPage) → no_page ≡ found → found.page < NO_PAGE → P
+none_low found is low = absurd (let page : NO_PAGE ≡ found.page = ap (λ (f : FoundPage). f.page) is in omega (arith, page, low))
 
 -- so whatever memories are, they may be known so
 pub none_known : (view : MemoryView) (t : BareTranslations) (fronts : Fronts) → IsClear fronts → AreFronts view t fronts
 none_known view t fronts is = record {
   count = ap length is.0;
-  heads = λ set found at. absurd (none-some found (sym (none_at SETS set) ∙ sym (ap (λ heads. get_or heads set None) is.0) ∙ at));
+  heads = λ set found at low. none_low found (sym (all_alike no_page SETS set) ∙ sym (ap (λ heads. get_or heads set no_page) is.0) ∙ at) low;
   seen = record {
     count = ap length is.1;
-    pages = λ place found at. absurd (none-some found (sym (none_at SEEN_PAGES place) ∙ sym (ap (λ seen. get_or seen place None) is.1) ∙ at));
+    pages = λ place found at. absurd (none-some found (sym (all_alike {A = Option FoundPage} None SEEN_PAGES place) ∙ sym (ap (λ seen. get_or seen place None) is.1) ∙ at));
   };
   tells = λ none. is;
 }
@@ -67,7 +72,7 @@ head_hits table t n found head = record { is = head.is; front = front_hits found
 pub hits_fronts : (view : MemoryView) (t u : BareTranslations) (n : ℕ) (fronts : Fronts) → u ≡ with_hits n t → AreFronts view t fronts → AreFronts view u fronts
 hits_fronts view t u n fronts is are = subst (λ (w : BareTranslations). AreFronts view w fronts) (sym is) (record {
   count = are.count;
-  heads = λ set found at. let head = are.heads set found at in (head.0, head_hits view.table t n found head.1);
+  heads = λ set found at low. let head = are.heads set found at low in (head.0, head_hits view.table t n found head.1);
   seen = are.seen;
   tells = are.tells;
 })
@@ -79,8 +84,8 @@ hits_true v t u n is entries q r held found_now = entries q r held (sym (ap (fou
 pub filled_fronts : (old new : MemoryView) (t : BareTranslations) (fronts : Fronts) → new.table ≡ old.table → AreFronts old t fronts → AreFronts new t fronts
 filled_fronts old new t fronts table are = record {
   count = are.count;
-  heads = λ set found at.
-      let head = are.heads set found at in
+  heads = λ set found at low.
+      let head = are.heads set found at low in
       (head.0, record { is = subst (λ (v : LedgerView). IsFoundPage v found) (sym table) head.1.is; front = head.1.front });
   seen = subst (λ (v : LedgerView). AreSeen v fronts.seen) (sym table) are.seen;
   tells = are.tells;
@@ -136,9 +141,9 @@ absent_held v s p none = sym (ap (option_map cached_page) none)
 -- A page that is known to be at the front is translated.
 
 module _ (view : MemoryView) (s p : ℕ) (found : FoundPage) (t : BareTranslations) (fronts : Fronts) (are : AreFronts view t fronts)
-    (so : (found.space ≡ s) × (found.page ≡ p) × (head_of fronts p ≡ Some found)) where
+    (so : (found.space ≡ s) × (found.page ≡ p) × (head_of fronts p ≡ found)) (low : p < NO_PAGE) where
   pub known_head : IsHead view.table t found
-  known_head = (are.heads (p % SETS) found so.2).1
+  known_head = (are.heads (p % SETS) found so.2 (subst (λ n. n < NO_PAGE) (sym so.1) low)).1
 
   pub known_found : IsFoundPageAt view s p found
   known_found = record { space_is = so.0; page_is = so.1; is = known_head.is }
@@ -170,6 +175,26 @@ module _ (view : MemoryView) (s p : ℕ) (found : FoundPage) (t u : BareTranslat
   pub front_looked_for : IsFront found.space found.page u → IsFront s p u
   front_looked_for front = subst (λ n. IsFront s n u) at.page_is (subst (λ n. IsFront n found.page u) at.space_is front)
 
+-- A page is put in the place of that at the front of its list: that place has it, if one was found, and the others have what they had.
+head_count : (fronts : Fronts) (p : ℕ) (result : Option FoundPage) → length fronts.heads ≡ SETS → length (slice_set fronts.heads (p % SETS) (unwrap_or result no_page)) ≡ SETS
+head_count fronts p result count = length-set fronts.heads (p % SETS) (unwrap_or result no_page) ∙ count
+
+head_put : (s p set : ℕ) (result : Option FoundPage) (found : FoundPage) (fronts : Fronts) → length fronts.heads ≡ SETS → set ≡ p % SETS
+    → get_or (with_head s p result fronts).heads set no_page ≡ found → found.page < NO_PAGE → result ≡ Some found
+head_put s p set result found fronts count same at low =
+    is result
+    (sym (get_or-set_same fronts.heads (p % SETS) (unwrap_or result no_page) no_page (omega (arith, count)))
+    ∙ ap (λ n. get_or (with_head s p result fronts).heads n no_page) (sym same) ∙ at)
+  where
+    is : (o : Option FoundPage) → unwrap_or o no_page ≡ found → o ≡ Some found
+    is None none = none_low found none low
+    is (Some known) same = ap Some same
+
+head_beside : (s p set : ℕ) (result : Option FoundPage) (found : FoundPage) (fronts : Fronts) → (set ≡ p % SETS → ⊥)
+    → get_or (with_head s p result fronts).heads set no_page ≡ found → get_or fronts.heads set no_page ≡ found
+head_beside s p set result found fronts other at =
+    sym (get_or-set_other fronts.heads (p % SETS) set (unwrap_or result no_page) no_page other) ∙ at
+
 -- A page that was translated is at the front of its list.
 
 module _ (view : MemoryView) (s p : ℕ) (result : Option FoundPage) (t u : BareTranslations) (fronts : Fronts) (finds : FindsPage view s p result)
@@ -194,9 +219,9 @@ module _ (view : MemoryView) (s p : ℕ) (result : Option FoundPage) (t u : Bare
   pub found_front : (found : FoundPage) → result ≡ Some found → IsFront found.space found.page u
   found_front found some = (here found some).1.front
 
-  beside : (set : ℕ) (found : FoundPage) → (set ≡ p % SETS → ⊥) → get_or fronts.heads set None ≡ Some found → (found.page % SETS ≡ set) × IsHead view.table u found
-  beside set found other at =
-      let head = are.heads set found at in (
+  beside : (set : ℕ) (found : FoundPage) → (set ≡ p % SETS → ⊥) → get_or fronts.heads set no_page ≡ found → found.page < NO_PAGE → (found.page % SETS ≡ set) × IsHead view.table u found
+  beside set found other at low =
+      let head = are.heads set found at low in (
         head.0,
         record {
           is = head.1.is;
@@ -208,12 +233,12 @@ module _ (view : MemoryView) (s p : ℕ) (result : Option FoundPage) (t u : Bare
 
   pub put_fronts : AreFronts view u left
   put_fronts = record {
-    count = length-set fronts.heads (p % SETS) result ∙ are.count;
-    heads = λ set found at. by_key set (p % SETS)
+    count = head_count fronts p result are.count;
+    heads = λ set found at low. by_key set (p % SETS)
         (λ same.
-        let one = here found (sym (get_or-set_same fronts.heads (p % SETS) result None (omega (arith, are.count))) ∙ ap (λ n. get_or left.heads n None) (sym same) ∙ at) in
+        let one = here found (head_put s p set result found fronts are.count same at low) in
         (one.0 ∙ sym same, one.1))
-        (λ other. beside set found other (sym (get_or-set_other fronts.heads (p % SETS) set result None other) ∙ at));
+        (λ other. beside set found other (head_beside s p set result found fronts other at) low);
     seen = put_seen view.table view.table fronts.seen s p result are.seen
         (λ found some. let at : IsFoundPageAt view s p found = subst (FindsPage view s p) some finds in (at.space_is, at.page_is, at.is)) (λ found other is. is);
     tells = λ none. cc;
@@ -254,13 +279,12 @@ module _ (view : MemoryView) (s address : ℕ) (page : FoundPage) (at : IsFoundP
 pub found_fronts : (view : MemoryView) (t : BareTranslations) (fronts : Fronts) (found : FoundPage) (s p : ℕ) → AreFronts view t fronts → IsFront found.space found.page t
     → IsFoundPageAt view s p found → AreFronts view t (with_head s p (Some found) fronts)
 found_fronts view t fronts found s p are front at = record {
-  count = length-set fronts.heads (p % SETS) (Some found) ∙ are.count;
-  heads = λ set other head. by_key set (p % SETS)
+  count = head_count fronts p (Some found) are.count;
+  heads = λ set other head low. by_key set (p % SETS)
       (λ same.
-      let one : found ≡ other = some_is found other
-      (sym (get_or-set_same fronts.heads (p % SETS) (Some found) None (omega (arith, are.count))) ∙ ap (λ n. get_or (slice_set fronts.heads (p % SETS) (Some found)) n None) (sym same) ∙ head) in
+      let one : found ≡ other = some_is found other (head_put s p set (Some found) other fronts are.count same head low) in
       subst (λ (f : FoundPage). (f.page % SETS ≡ set) × IsHead view.table t f) one (ap (λ n. n % SETS) at.page_is ∙ sym same, record { is = at.is; front = front }))
-      (λ apart. are.heads set other (sym (get_or-set_other fronts.heads (p % SETS) set (Some found) None apart) ∙ head));
+      (λ apart. are.heads set other (head_beside s p set (Some found) other fronts apart head) low);
   seen = put_seen view.table view.table fronts.seen s p (Some found) are.seen
       (λ other some. subst (λ (f : FoundPage). (f.space ≡ s) × (f.page ≡ p) × IsFoundPage view.table f) (some_is found other some) (at.space_is, at.page_is, at.is))
       (λ other apart there. there);
@@ -271,15 +295,14 @@ found_fronts view t fronts found s p are front at = record {
 pub brought_fronts : (old new : MemoryView) (t : BareTranslations) (fronts : Fronts) (page found : FoundPage) (line s p : ℕ) → AreFronts old t fronts → IsFront page.space page.page t
     → IsBroughtTo old.table new.table page line found → found.space ≡ s → found.page ≡ p → AreFronts new t (with_head s p (Some found) fronts)
 brought_fronts old new t fronts page found line s p are front to s_is p_is = record {
-  count = length-set fronts.heads (p % SETS) (Some found) ∙ are.count;
-  heads = λ set other at. by_key set (p % SETS)
+  count = head_count fronts p (Some found) are.count;
+  heads = λ set other at low. by_key set (p % SETS)
       (λ same.
-      let is : found ≡ other = some_is found other
-      (sym (get_or-set_same fronts.heads (p % SETS) (Some found) None (omega (arith, are.count))) ∙ ap (λ n. get_or (slice_set fronts.heads (p % SETS) (Some found)) n None) (sym same) ∙ at) in
+      let is : found ≡ other = some_is found other (head_put s p set (Some found) other fronts are.count same at low) in
       subst (λ (f : FoundPage). (f.page % SETS ≡ set) × IsHead new.table t f) is
       (ap (λ n. n % SETS) p_is ∙ sym same, record { is = to.is; front = subst (λ n. IsFront n found.page t) (sym to.space_is) (subst (λ n. IsFront page.space n t) (sym to.page_is) front) }))
       (λ apart.
-      let head = are.heads set other (sym (get_or-set_other fronts.heads (p % SETS) set (Some found) None apart) ∙ at) in (
+      let head = are.heads set other (head_beside s p set (Some found) other fronts apart at) low in (
         head.0,
         record {
           is = to.others other (λ ss pp. apart (sym head.0 ∙ ap (λ n. n % SETS) (pp ∙ sym to.page_is ∙ p_is))) head.1.is;

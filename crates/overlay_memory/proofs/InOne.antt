@@ -64,15 +64,10 @@ put_in_place view c s address bytes page there joined small some fits can filled
     let put : IsFilled v c s address bytes = subst (λ a. IsFilled v c s a bytes) place filled in
     stored_by v v c c s address bytes (books v) (books v) some row (brought_none v s) put (settled_none c s p) (subst (AreAlike (books c)) put.ledger (alike_itself (books c)))
 
--- the same of a page that may be written
-pub stored_in_line : (view : MemoryView) (c : State) (s address : ℕ) (bytes : List ℕ) → AreOverlaysSmall (state_of view) → IsPermitted view s writable address → 0 < length bytes
-    → address % LINE_BYTES + length bytes ≤ LINE_BYTES → is_writable (state_of view) s (address / PAGE_BYTES) (address / LINE_BYTES % PAGE_LINES) ≡ true
-    → IsFilled (state_of view) c s (PAGE_BYTES * (address / PAGE_BYTES) + (LINE_BYTES * (address / LINE_BYTES % PAGE_LINES) + address % LINE_BYTES)) bytes
-    → IsDone view c s address bytes
-stored_in_line view c s address bytes small may some fits can filled = (
-  permitted view s writable address (length bytes) may (omega (arith, fits)),
-  put_in_place view c s address bytes may.page may.there may.joined small some fits can filled,
-)
+-- where the page may be written, they are stored so
+pub done_in_line : (view : MemoryView) (c : State) (s address : ℕ) (bytes : List ℕ) → IsPermitted view s writable address
+    → address % LINE_BYTES + length bytes ≤ LINE_BYTES → IsStored (state_of view) c s address bytes → IsDone view c s address bytes
+done_in_line view c s address bytes may fits stored = (permitted view s writable address (length bytes) may (omega (arith, fits)), stored)
 
 -- bytes in one page that is there, with the lines under them
 pub record IsInOne (v : State) (s address : ℕ) (lines bytes : List ℕ) : Type 0 where

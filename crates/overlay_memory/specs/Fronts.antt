@@ -1,10 +1,11 @@
-use Rattle.std.specs.Prelude.{◌≡◌, ℕ, ◌%◌, List, length, replicate, slice_index_or, slice_set, Option, Some, None, true, false}
+use Rattle.std.specs.Prelude.{◌≡◌, ℕ, ◌%◌, List, ◌<◌, length, replicate, slice_index_or, slice_set, Option, Some, None, true, false, unwrap_or}
 use Rattle.overlay_memory.specs.declared.fronts.Fronts.{Fronts}
 use Rattle.overlay_memory.specs.declared.epochs.TheConstants.{SEEN_PAGES}
 use Rattle.overlay_memory.specs.Epochs.{place_of}
-use Rattle.overlay_pages.specs.Spots.{IsFoundPage}
+use Rattle.overlay_pages.specs.Spots.{IsFoundPage, no_page}
 use Rattle.overlay_pages.specs.View.{MemoryView}
 use Rattle.overlay_pages.specs.declared.spots.FoundPage.{FoundPage}
+use Rattle.overlay_pages.specs.declared.spots.TheConstants.{NO_PAGE}
 use Rattle.space_ledger.specs.View.{LedgerView}
 use Rattle.translation_cache.specs.Bare.{BareTranslations}
 use Rattle.translation_cache.specs.CountedLaws.{IsFront}
@@ -15,20 +16,20 @@ use Rattle.translation_cache.specs.declared.cached.Cached.{Cached}
 
 -- nothing
 abbrev pub IsClear : Fronts → Type 0
-IsClear fronts = (fronts.heads ≡ replicate SETS None) × (fronts.seen ≡ replicate SEEN_PAGES None)
+IsClear fronts = (fronts.heads ≡ replicate SETS no_page) × (fronts.seen ≡ replicate SEEN_PAGES None)
 
 -- where a memory says so, nothing is known
 abbrev pub TellsNone : Fronts → Type 0
 TellsNone fronts = fronts.any ≡ false → IsClear fronts
 
--- what is known of the list of a page
-abbrev pub head_of : Fronts → ℕ → Option FoundPage
-head_of fronts page = slice_index_or fronts.heads (page % SETS) None
+-- what is known of the list of a page: what stands for no page, where that is nothing
+abbrev pub head_of : Fronts → ℕ → FoundPage
+head_of fronts page = slice_index_or fronts.heads (page % SETS) no_page
 
 -- another page is at the front of its list, and was found
 abbrev pub with_head : ℕ → ℕ → Option FoundPage → Fronts → Fronts
 with_head space page found fronts = record {
-  heads = slice_set fronts.heads (page % SETS) found;
+  heads = slice_set fronts.heads (page % SETS) (unwrap_or found no_page);
   seen = slice_set fronts.seen (place_of space page) found;
   any = true;
 }
@@ -49,6 +50,7 @@ pub record AreSeen (table : LedgerView) (seen : List (Option FoundPage)) : Type 
 
 pub record AreFronts (view : MemoryView) (t : BareTranslations) (fronts : Fronts) : Type 0 where
   pub count : length fronts.heads ≡ SETS
-  pub heads : (set : ℕ) (found : FoundPage) → slice_index_or fronts.heads set None ≡ Some found → (found.page % SETS ≡ set) × IsHead view.table t found
+  -- what has the number of no page says nothing
+  pub heads : (set : ℕ) (found : FoundPage) → slice_index_or fronts.heads set no_page ≡ found → found.page < NO_PAGE → (found.page % SETS ≡ set) × IsHead view.table t found
   pub seen : AreSeen view.table fronts.seen
   pub tells : TellsNone fronts

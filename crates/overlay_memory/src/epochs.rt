@@ -49,21 +49,16 @@ fn place_of(space: u16, page: u64) -> usize
     ((page % SEEN_PAGES as u64 + SEEN_STEP * u64::from(space)) % SEEN_PAGES as u64) as usize
 }
 
-/// A page, where it is that of this number and space.
+/// A page that was found, where it is that of this number and space.
 #[inline(always)]
-pub(crate) fn if_same(known: &Option<FoundPage>, space: u16, page: u64) -> Option<&FoundPage>
+pub(crate) fn if_same(known: &FoundPage, space: u16, page: u64) -> Option<&FoundPage>
     ensures { IfSome result (λ found. (found.now.space ≡ space) × (found.now.page ≡ page)
-        × (known.now ≡ Some found.now)) }
+        × (known.now ≡ found.now)) }
 {
-    match known {
-        Some(found) => {
-            if found.page == page && found.space == space {
-                Some(found)
-            } else {
-                None
-            }
-        }
-        None => None,
+    if known.page == page && known.space == space {
+        Some(known)
+    } else {
+        None
     }
 }
 
@@ -97,10 +92,12 @@ impl SeenPages {
             × (page_at self.now space page ≡ Some found.now)) }
     {
         let known = &self.places[place_of(space, page)];
-        if known.epoch == self.epoch {
-            if_same(&known.found, space, page)
-        } else {
-            None
+        if known.epoch != self.epoch {
+            return None;
+        }
+        match &known.found {
+            Some(found) => if_same(found, space, page),
+            None => None,
         }
     }
 

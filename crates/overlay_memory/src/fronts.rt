@@ -1,6 +1,7 @@
 //! What is known of pages, as the tables have them: of each list of translations the page at its front, and pages that were found before.
 
 ghost use Rattle.std.specs.Prelude.{◌≡◌, ◌%◌, ◌<◌, IfOk, IfSome, Some};
+ghost use Rattle.std.specs.Option.{option_copied};
 ghost use Rattle.overlay_memory.specs.Epochs.{page_at};
 ghost use Rattle.overlay_memory.specs.Fronts.{IsClear, TellsNone, head_of, with_head};
 ghost use Rattle.translation_cache.specs.declared.TheConstants.{SETS};
@@ -14,7 +15,8 @@ use translation_cache::SETS;
 /// no table, and one to the others at their list alone.
 #[derive(Drop)]
 pub(crate) struct Fronts {
-    heads: [Option<FoundPage>; SETS],
+    // each with the number of no page where nothing is known, so that a page is told by its number and its space alone
+    heads: [FoundPage; SETS],
     seen: SeenPages,
     // false only where nothing is known, so that what is forgotten a page at a time is cleared once
     any: bool,
@@ -36,7 +38,7 @@ impl Fronts {
     {
         let seen = SeenPages::new(alloc)?;
         Ok(Fronts {
-            heads: [None; SETS],
+            heads: [FoundPage::none(); SETS],
             seen,
             any: false,
         })
@@ -58,7 +60,7 @@ impl Fronts {
     fn forget(&mut self)
         ensures { IsClear self.new }
     {
-        self.heads.fill(None);
+        self.heads.fill(FoundPage::none());
         self.seen.clear();
         self.any = false;
     }
@@ -67,7 +69,7 @@ impl Fronts {
     #[inline(always)]
     pub(crate) fn page(&self, space: u16, page: u64) -> Option<&FoundPage>
         ensures { IfSome result (λ found. (found.now.space ≡ space) × (found.now.page ≡ page)
-            × (head_of self.now page ≡ Some found.now)) }
+            × (head_of self.now page ≡ found.now)) }
     {
         if_same(&self.heads[set_of(page)], space, page)
     }
@@ -82,16 +84,14 @@ impl Fronts {
     }
 
     /// Puts what was found of a page, which is at the front of its list now.
-    pub(crate) fn put(&mut self, space: u16, page: u64, found: Option<FoundPage>)
-        ensures { self.new ≡ with_head space page found self.old }
+    pub(crate) fn put(&mut self, space: u16, page: u64, found: Option<&FoundPage>)
+        ensures { self.new ≡ with_head space page (option_copied found.entry) self.old }
     {
-        // it is copied, so that both have it
-        let seen = match &found {
-            Some(known) => Some(*known),
-            None => None,
+        self.heads[set_of(page)] = match found {
+            Some(known) => *known,
+            None => FoundPage::none(),
         };
-        self.heads[set_of(page)] = found;
-        self.seen.put(space, page, seen);
+        self.seen.put(space, page, found.copied());
         self.any = true;
     }
 }

@@ -181,8 +181,7 @@ pub(crate) fn read_bytes(
 }
 
 /// As `load_line`, of a page that isn't known to be at the front of its list.
-#[cold]
-#[inline(never)]
+#[inline(always)]
 fn load_anew(
     pages: &OverlayPages,
     cache: &mut Cache,
@@ -239,7 +238,7 @@ pub(crate) fn load_line(
 {
     match fronts.page(space, address / PAGE_BYTES as u64) {
         Some(page) => {
-            cache.count_hits(1);
+            cache.count_hit();
             read_found(pages, page.line(line_of(address)), address, into, need)
         }
         None => load_anew(pages, cache, fronts, space, address, into, need),

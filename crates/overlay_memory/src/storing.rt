@@ -96,6 +96,43 @@ fn fill_found(pages: &mut OverlayPages, page: &FoundPage, line: u8, at: usize, b
     put(pages, page.line(line), at, bytes);
 }
 
+/// Puts bytes, some and all in one line of a page that was found, whatever its permissions, where that line can be written where it
+/// stands. Answers whether that was done.
+#[inline(always)]
+fn put_where_it_stands(
+    pages: &mut OverlayPages,
+    space: u16,
+    page: &FoundPage,
+    address: u64,
+    bytes: &[u8],
+) -> bool
+    requires found { IsFoundPageAt pages.old space (address / PAGE_BYTES) page.now }
+    requires some { 0 < length bytes.now }
+    requires one_line { address % LINE_BYTES + length bytes.now ≤ LINE_BYTES }
+    requires small { AreOverlaysSmall (state_of pages.old) }
+    ensures stored { result ≡ true
+        → IsStored (state_of pages.old) (state_of pages.new) space address bytes.now }
+    ensures entries { (t : Translations Cached) → AreTrue (state_of pages.old) t
+        → AreTrue (state_of pages.new) t }
+    ensures table { pages.new.table ≡ pages.old.table }
+    ensures joined { result ≡ true → IsJoined pages.old }
+    ensures kept { result ≡ false → pages.new ≡ pages.old }
+    ensures apart { result ≡ false → is_writable (state_of pages.old) page.now.space page.now.page
+        (address / LINE_BYTES % PAGE_LINES) ≡ false }
+{
+    let line = line_of(address);
+    if page.is_writable(line) {
+        put(
+            pages,
+            page.line(line),
+            (address % LINE_BYTES as u64) as usize,
+            bytes,
+        );
+        return true;
+    }
+    false
+}
+
 /// Replaces bytes of a page that was found, where the lines in which they lie can be written.
 fn fill_page(pages: &mut OverlayPages, page: &FoundPage, at: usize, bytes: &[u8])
     requires found { IsFoundPage pages.old.table page.now }
@@ -247,14 +284,7 @@ fn put_in_line(
     ensures held { AreTrue (state_of pages.new) cache.new }
     ensures lists { bare cache.new ≡ bare cache.old }
 {
-    let line = line_of(address);
-    if page.is_writable(line) {
-        put(
-            pages,
-            page.line(line),
-            (address % LINE_BYTES as u64) as usize,
-            bytes,
-        );
+    if put_where_it_stands(pages, space, page, address, bytes) {
         return;
     }
     if stays_overlay(pages, space, page.own) {
@@ -432,10 +462,10 @@ fn store_brought(
         fronts.clear();
         let lines = lines_at((address % PAGE_BYTES as u64) as usize, bytes.len());
         let settled = put_in_found(pages, cache, space, &page, address, lines, bytes);
-        fronts.put(space, number, Some(settled));
+        fronts.put(space, number, Some(&settled));
         return Came::Done;
     }
-    match put_brought(pages, cache, space, page, address, bytes) {
+    match &put_brought(pages, cache, space, page, address, bytes) {
         Some(found) => fronts.put(space, number, Some(found)),
         None => fronts.clear(),
     }
@@ -480,39 +510,6 @@ fn store_apart(
     came_of(write_in_page(pages, cache, space, address, bytes))
 }
 
-/// Puts bytes, some and all in one line of a page that was found, where it may be written and that line can be where it stands. Answers
-/// whether that was done.
-#[inline(always)]
-fn put_where_it_stands(
-    pages: &mut OverlayPages,
-    space: u16,
-    page: &FoundPage,
-    address: u64,
-    bytes: &[u8],
-) -> bool
-    requires found { IsFoundPageAt pages.old space (address / PAGE_BYTES) page.now }
-    requires some { 0 < length bytes.now }
-    requires one_line { address % LINE_BYTES + length bytes.now ≤ LINE_BYTES }
-    requires small { AreOverlaysSmall (state_of pages.old) }
-    ensures stores { result ≡ true → Stores pages.old pages.new space address bytes.now (Ok tt) }
-    ensures entries { (t : Translations Cached) → AreTrue (state_of pages.old) t
-        → AreTrue (state_of pages.new) t }
-    ensures table { pages.new.table ≡ pages.old.table }
-    ensures kept { result ≡ false → pages.new ≡ pages.old }
-{
-    let line = line_of(address);
-    if page.perms.contains(Perms::W) && page.is_writable(line) {
-        put(
-            pages,
-            page.line(line),
-            (address % LINE_BYTES as u64) as usize,
-            bytes,
-        );
-        return true;
-    }
-    false
-}
-
 /// As `store_front` of `OverlayMemory`.
 #[inline(always)]
 pub(crate) fn store_front(
@@ -537,7 +534,9 @@ pub(crate) fn store_front(
 {
     match fronts.page(space, address / PAGE_BYTES as u64) {
         Some(page) => {
-            if put_where_it_stands(pages, space, page, address, bytes) {
+            if page.perms.contains(Perms::W)
+                && put_where_it_stands(pages, space, page, address, bytes)
+            {
                 cache.count_hit();
                 return true;
             }
@@ -570,15 +569,14 @@ fn store_found(
     ensures lists { bare cache.new ≡ bare cache.old }
     ensures fronts { AreFronts pages.new (bare cache.new) fronts.new }
 {
-    if put_where_it_stands(pages, space, &page, address, bytes) {
+    if page.perms.contains(Perms::W) && put_where_it_stands(pages, space, &page, address, bytes) {
         return Came::Done;
     }
     store_apart(pages, cache, fronts, space, address, bytes)
 }
 
 /// As `store_line`, of a page that isn't known to be at the front of its list.
-#[cold]
-#[inline(never)]
+#[inline(always)]
 fn store_anew(
     pages: &mut OverlayPages,
     cache: &mut Cache,
@@ -630,7 +628,7 @@ pub(crate) fn store_line(
     match fronts.page(space, address / PAGE_BYTES as u64) {
         Some(page) => {
             let page = *page;
-            cache.count_hits(1);
+            cache.count_hit();
             store_found(pages, cache, fronts, space, page, address, bytes)
         }
         None => store_anew(pages, cache, fronts, space, address, bytes),

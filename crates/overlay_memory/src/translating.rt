@@ -9,6 +9,7 @@ ghost use Rattle.overlay_pages.specs.Changes.{Fits, is_writable, with_brought, w
 ghost use Rattle.overlay_pages.specs.State.{memory_of};
 ghost use Rattle.overlay_pages.specs.Spots.{FindsPage, IsBroughtTo, IsFoundPage};
 ghost use Rattle.overlay_pages.specs.View.{IsJoined, state_of};
+ghost use Rattle.overlay_pages.specs.declared.spots.TheConstants.{NO_PAGE};
 ghost use Rattle.overlay_memory.specs.Translated.{access_at};
 ghost use Rattle.overlay_memory.specs.Fronts.{AreFronts, AreSeen, held_of};
 ghost use Rattle.overlay_memory.specs.View.{AreTrue, cached_in};
@@ -51,7 +52,7 @@ fn find_page(pages: &OverlayPages, fronts: &Fronts, space: u16, page: u64) -> Op
 }
 
 /// As `translate`, of a page that isn't known to be at the front of its list.
-#[inline(never)]
+#[inline(always)]
 pub(crate) fn translate_anew(
     pages: &OverlayPages,
     cache: &mut Cache,
@@ -82,6 +83,7 @@ pub(crate) fn translate_anew(
 }
 
 /// Translates a page that was found, which then is known to be at the front of its list.
+#[inline(always)]
 pub(crate) fn bring_found(
     pages: &OverlayPages,
     cache: &mut Cache,
@@ -98,10 +100,11 @@ pub(crate) fn bring_found(
     ensures fronts { AreFronts pages.now (bare cache.new) fronts.new }
 {
     look_up(pages, cache, found.space, found.page, cached_of(found));
-    fronts.put(found.space, found.page, Some(*found));
+    fronts.put(found.space, found.page, Some(found));
 }
 
 /// Counts the look-up of a page that is there, and enters what is there to be held of it where its entry isn't there.
+#[inline(always)]
 fn look_up(pages: &OverlayPages, cache: &mut Cache, space: u16, page: u64, there: Cached)
     requires held { AreTrue (state_of pages.now) cache.old }
     requires there { Some there ≡ cached_in (state_of pages.now) space page }
@@ -137,6 +140,7 @@ fn translate(
     space: u16,
     page: u64,
 ) -> Option<FoundPage>
+    requires low { page < NO_PAGE }
     requires held { AreTrue (state_of pages.now) cache.old }
     requires fronts { AreFronts pages.now (bare cache.old) fronts.old }
     ensures found { FindsPage pages.now space page result }
@@ -148,7 +152,7 @@ fn translate(
 {
     match fronts.page(space, page) {
         Some(found) => {
-            cache.count_hits(1);
+            cache.count_hit();
             Some(*found)
         }
         None => translate_anew(pages, cache, fronts, space, page),
@@ -164,6 +168,7 @@ fn translate_for(
     page: u64,
     need: Perms,
 ) -> bool
+    requires low { page < NO_PAGE }
     requires held { AreTrue (state_of pages.now) cache.old }
     requires fronts { AreFronts pages.now (bare cache.old) fronts.old }
     ensures allowed { result ≡ page_allows (memory_of (state_of pages.now) space) need.0 page }

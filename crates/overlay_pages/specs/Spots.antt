@@ -1,4 +1,4 @@
-use Rattle.std.specs.Prelude.{◌≡◌, ℕ, ◌<◌, ◌&&◌, not, true, false, Option, Some, None}
+use Rattle.std.specs.Prelude.{◌≡◌, ℕ, ◌<◌, ◌&&◌, not, true, false, [], Option, Some, None}
 use Rattle.std.specs.Option.{option_map}
 use Rattle.sizes.specs.declared.TheConstants.{PAGE_LINES}
 use Rattle.unit_map.specs.declared.block.Block.{Block}
@@ -11,6 +11,7 @@ use Rattle.overlay_pages.specs.View.{MemoryView, state_of}
 use Rattle.overlay_pages.specs.declared.spots.FoundLine.{FoundLine}
 use Rattle.overlay_pages.specs.declared.spots.FoundPage.{FoundPage}
 use Rattle.overlay_pages.specs.declared.spots.Spot.{Spot}
+use Rattle.overlay_pages.specs.declared.spots.TheConstants.{NO_PAGE}
 use Rattle.overlay_pages.specs.declared.spots.Spot.TheVariants.{Segment, Frame}
 
 -- Where a line of a page stands.
@@ -63,6 +64,10 @@ pub record IsFoundPage (table : LedgerView) (found : FoundPage) : Type 0 where
   pub own : lines_of x.overlay ≡ found.own
   pub block : (overlay : Entry) → x.overlay ≡ Some overlay → overlay.block ≡ found.block
   pub in_frame : found.in_frame ≡ (not (space_in table found.space).speculating && is_alone (ledger_of table) found.space found.page)
+
+-- What stands for no page.
+abbrev pub no_page : FoundPage
+no_page = record { space = 0; page = NO_PAGE; perms = record { 0 = 0 }; frame = 0; own = []; block = record { unit = 0; order = 0 }; in_frame = false }
 
 -- It is found so once a line of it was brought: that line is one of its own. Every other page is found as before.
 pub record IsBroughtTo (old new : LedgerView) (page : FoundPage) (line : ℕ) (found : FoundPage) : Type 0 where

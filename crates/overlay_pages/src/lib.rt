@@ -26,4 +26,4 @@ mod spots;
 
 pub use pages::OverlayPages;
 pub use settling::{LARGE_LINES, MOST_OWN};
-pub use spots::{FoundLine, FoundPage};
+pub use spots::{FoundLine, FoundPage, NO_PAGE};

@@ -12,15 +12,19 @@ ghost use Rattle.overlay_pages.specs.State.{books};
 ghost use Rattle.space_maps.specs.Spaces.{page_in, space_in};
 ghost use Rattle.space_ledger.specs.View.{lines_of, overlay_at};
 ghost use Rattle.overlay_pages.specs.Changes.{is_writable, units_of, with_brought};
-ghost use Rattle.overlay_pages.specs.Spots.{IsFoundAt, IsFoundPage};
+ghost use Rattle.overlay_pages.specs.Spots.{IsFoundAt, IsFoundPage, no_page};
 ghost use Rattle.overlay_pages.specs.View.{IsJoined, MemoryView, state_of};
 
+use bitflags::Flags;
 use overlay_bits::Bits;
 use overlay_mapping_table::Entry;
 use ovl_io::Perms;
 use page_table::PageEntry;
 use space_ledger::class_of;
 use unit_map::Block;
+
+/// The number of no page: an address has a page below 2^52.
+pub const NO_PAGE: u64 = u64::MAX;
 
 /// Where a line of a page stands.
 #[derive(Clone, Copy, Debug, PartialEq, Eq)]
@@ -57,6 +61,22 @@ pub struct FoundPage {
 }
 
 impl FoundPage {
+    /// What stands for no page.
+    #[inline(always)]
+    pub fn none() -> FoundPage
+        ensures { result ≡ no_page }
+    {
+        FoundPage {
+            space: 0,
+            page: NO_PAGE,
+            perms: Perms::empty(),
+            frame: 0,
+            own: Bits::empty(),
+            block: Block { unit: 0, order: 0 },
+            in_frame: false,
+        }
+    }
+
     /// A line of it, below 64. Costs a step.
     #[inline]
     pub fn line(self, line: u8) -> FoundLine
