@@ -85,7 +85,7 @@ module _ (extension : Bool) (lines : List (List ℕ)) (view : View) (start pc at
 module _ (old new : List (List ℕ)) (memory : TranslatedView) (space : ℕ) (hand altered : Hand) (pc : ℕ) (line : List ℕ) (low : pc < 2 ^ 64) (aligned : pc % 4 ≡ 0)
     (code : IsCodeLine memory space pc line) (there : get_or new (pc / LINE_BYTES % KEPT_LINES) [] ≡ line)
     (others : (slot : ℕ) → (slot ≡ pc / LINE_BYTES % KEPT_LINES → ⊥) → get_or new slot [] ≡ get_or old slot [])
-    (was : IsInHand old memory space hand) (turn : IsTurned (pc / PAGE_BYTES) hand altered) where
+    (was : IsInHand old memory space hand) (turn : IsTurned (PAGE_BYTES * (pc / PAGE_BYTES)) hand altered) where
   abbrev own : ℕ
   own = pc / LINE_BYTES % PAGE_LINES
 
@@ -114,20 +114,23 @@ module _ (old new : List (List ℕ)) (memory : TranslatedView) (space : ℕ) (ha
   was_held : (k : ℕ) → k < PAGE_LINES → has_line altered.known k ≡ true → IsLineHeld old memory space (start_of k)
   was_held k below has = by_turn turn.1
     where
-      by_turn : (altered ≡ hand) ⊎ (altered ≡ record { page = pc / PAGE_BYTES; known = []; owed = hand.owed }) → IsLineHeld old memory space (start_of k)
+      by_turn : (altered ≡ hand) ⊎ (altered ≡ record { start = PAGE_BYTES * (pc / PAGE_BYTES); known = []; owed = hand.owed }) → IsLineHeld old memory space (start_of k)
       by_turn (inl same) =
-          subst (λ n. IsLineHeld old memory space (PAGE_BYTES * n + LINE_BYTES * k)) (sym (ap (λ (h : Hand). h.page) same) ∙ turn.0)
-          (was k below (sym (ap (λ (h : Hand). has_line h.known k) same) ∙ has))
+          subst (λ n. IsLineHeld old memory space (n + LINE_BYTES * k)) (sym (ap (λ (h : Hand). h.start) same) ∙ turn.0)
+          (was k below (sym (ap (λ (h : Hand). has_line h.known k) same) ∙ has)).1
       by_turn (inr none) = absurd (let lacks = ap (λ (h : Hand). has_line h.known k) none in let both = sym lacks ∙ has in cc)
 
-  pub taken : (known : List ℕ) → known ≡ with_line altered.known own → IsReached new memory space (record { page = altered.page; known = known; owed = altered.owed }) pc
+  pub taken : (known : List ℕ) → known ≡ with_line altered.known own → IsReached new memory space (record { start = altered.start; known = known; owed = altered.owed }) pc
   taken known known_is = record {
-    hand_is = λ k below has.
-        subst (λ n. IsLineHeld new memory space (PAGE_BYTES * n + LINE_BYTES * k)) (sym turn.0)
-        (by_own k below (sym (has_with altered.known own k) ∙ sym (ap (λ l. has_line l k) known_is) ∙ has) (cases_eq k own));
-    page = turn.0;
-    aligned = aligned;
-    known = ap (λ l. has_line l own) known_is ∙ has_with altered.known own own ∙ ap (λ b. b || has_line altered.known own) (are own own refl);
+    hand_is = λ k below has. (
+      let is = turn.0 in omega (arith, is),
+      subst (λ n. IsLineHeld new memory space (n + LINE_BYTES * k)) (sym turn.0)
+          (by_own k below (sym (has_with altered.known own k) ∙ sym (ap (λ l. has_line l k) known_is) ∙ has) (cases_eq k own)),
+    );
+    has = record {
+      start = let is = turn.0 in omega (arith, is, aligned);
+      known = ap (λ l. has_line l own) known_is ∙ has_with altered.known own own ∙ ap (λ b. b || has_line altered.known own) (are own own refl);
+    };
   }
     where
       or_right : (a b : Bool) → (a ≡ true → ⊥) → (a || b) ≡ true → b ≡ true

@@ -11,7 +11,7 @@ use Rattle.translation_cache.specs.CountedLaws.{IsFront, front_hits}
 use Rattle.translation_cache.specs.Translations.{with_hits}
 use Rattle.translation_cache.specs.declared.TheConstants.{SETS}
 use Rattle.machine_core.specs.Access.{Leaves, lists_after, lists_lent, spaces_lent}
-use Rattle.machine_core.specs.InHand.{IsLineHeld, StaysInHand, is_apart, lost, parted, without_page}
+use Rattle.machine_core.specs.InHand.{IsLineHeld, StaysInHand, is_apart, lost, page_in, parted, without_page}
 use Rattle.machine_core.specs.declared.view.View.{View}
 use Rattle.machine_core.proofs.Holding.{IsApart, code_beside, code_kept, code_off, code_same}
 use Rattle.machine_core.proofs.Staying.{held_over}
@@ -37,15 +37,15 @@ module _ (old new : View) (address count need : ℕ) (some : 0 < count) (few : c
     (lists : lists_lent new ≡ lists_after old (record { need = need; address = address; length = count })) where
   by_lines : ((start : ℕ) (line : List ℕ) → IsApart address start → IsCodeLine old.memory.now old.space start line → IsCodeLine new.memory.now old.space start line)
       → StaysInHand old new
-  by_lines goes = by_test (is_apart address old.hand.page) refl
+  by_lines goes = by_test (is_apart address (page_in old.hand)) refl
     where
-      by_test : (b : Bool) → is_apart address old.hand.page ≡ b → StaysInHand old new
+      by_test : (b : Bool) → is_apart address (page_in old.hand) ≡ b → StaysInHand old new
       by_test false test = inr (hand ∙ ap (λ b. cond b old.hand (lost old.hand)) test)
       by_test true test = inl (
         hand ∙ ap (λ b. cond b old.hand (lost old.hand)) test,
         λ lines start held page.
             subst (λ p. IsLineHeld lines new.memory.now p start) (sym space)
-            (held_over lines old.memory.now new.memory.now old.space old.space start held (goes start _ (apart_of address old.hand.page start test page))),
+            (held_over lines old.memory.now new.memory.now old.space old.space start held (goes start _ (apart_of address (page_in old.hand) start test page))),
       )
 
   pub parted_same : spaces_lent new ≡ spaces_lent old → StaysInHand old new
@@ -74,9 +74,9 @@ module _ (old new : View) (space : new.space ≡ old.space) (hits : lists_lent n
 
   pub hit_stored : (address : ℕ) (bytes : List ℕ) → new.hand ≡ without_page (address / PAGE_BYTES) old.hand → address % PAGE_BYTES + length bytes ≤ PAGE_BYTES
       → memory_of (spaces_lent new) old.space ≡ with_bytes (memory_of (spaces_lent old) old.space) address bytes → StaysInHand old new
-  hit_stored address bytes hand fits memory = by_test (address / PAGE_BYTES == old.hand.page) refl
+  hit_stored address bytes hand fits memory = by_test (address / PAGE_BYTES == page_in old.hand) refl
     where
-      by_test : (b : Bool) → (address / PAGE_BYTES == old.hand.page) ≡ b → StaysInHand old new
+      by_test : (b : Bool) → (address / PAGE_BYTES == page_in old.hand) ≡ b → StaysInHand old new
       by_test true test = inr (hand ∙ ap (λ b. cond b (lost old.hand) old.hand) test)
       by_test false test = inl (
         hand ∙ ap (λ b. cond b (lost old.hand) old.hand) test,
@@ -84,5 +84,5 @@ module _ (old new : View) (space : new.space ≡ old.space) (hits : lists_lent n
             subst (λ p. IsLineHeld lines new.memory.now p start) (sym space)
             (held_over lines old.memory.now new.memory.now old.space old.space start held (λ code.
             code_off old.memory.now new.memory.now old.space start _ (front_hit start code.front) code address bytes
-            (λ same. let both : address / PAGE_BYTES ≡ old.hand.page = same ∙ page in grind (arith, nat_tests)) fits memory)),
+            (λ same. let both : address / PAGE_BYTES ≡ page_in old.hand = same ∙ page in grind (arith, nat_tests)) fits memory)),
       )

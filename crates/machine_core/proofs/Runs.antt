@@ -19,7 +19,7 @@ use Rattle.machine_core.specs.Access.{IsReadyView, spaces_lent}
 use Rattle.machine_core.specs.Ahead.{guest_ahead}
 use Rattle.machine_core.specs.Executions.{AreLikeExecutions, Comes, ComesFrom, Executions, after_steps, executions, steps_in, stops_in}
 use Rattle.machine_core.specs.Held.{GoesPast, HasRun, HoldsOn, IsInHand, IsOn, IsReached, IsWordAt, owing}
-use Rattle.machine_core.specs.InHand.{IsLineHeld}
+use Rattle.machine_core.specs.InHand.{IsLineHeld, page_in}
 use Rattle.machine_core.specs.Turns.{AreLikeGuests, Guest, executed, outcome_of}
 use Rattle.overlay_pages.specs.State.{State}
 use Rattle.machine_core.specs.Kept.{IsBeside, guest_lent}
@@ -45,13 +45,21 @@ on_here start from k pc next whole low inside is goes = omega (arith, whole, low
 pub no_stop : (stops : Option (Bor Addresses)) (address : ℕ) → stops ≡ None → contains (stops_in stops) address ≡ false
 no_stop stops address none = ap (λ (o : Option (Bor Addresses)). contains (stops_in o) address) none ∙ contains-empty nat_cmp address
 
+-- an address whose line is in hand is aligned
+pub aligned_at : (lines : List (List ℕ)) (memory : TranslatedView) (space : ℕ) (hand : Hand) (address : ℕ) → IsReached lines memory space hand address → address % 4 ≡ 0
+aligned_at lines memory space hand address taken =
+    let whole = (taken.hand_is (address / LINE_BYTES % PAGE_LINES) (omega arith) taken.has.known).0 in
+    let start = taken.has.start in
+    omega (arith, whole, start)
+
 -- the line of an address in hand
 pub held_at : (lines : List (List ℕ)) (memory : TranslatedView) (space : ℕ) (hand : Hand) (address : ℕ) → IsReached lines memory space hand address
     → IsLineHeld lines memory space (LINE_BYTES * (address / LINE_BYTES))
 held_at lines memory space hand address taken =
-    let page = taken.page in
-    let at : PAGE_BYTES * hand.page + LINE_BYTES * (address / LINE_BYTES % PAGE_LINES) ≡ LINE_BYTES * (address / LINE_BYTES) = omega (arith, page) in
-    subst (IsLineHeld lines memory space) at (taken.hand_is (address / LINE_BYTES % PAGE_LINES) (omega arith) taken.known)
+    let start = taken.has.start in
+    let aligned = aligned_at lines memory space hand address taken in
+    let at : hand.start + LINE_BYTES * (address / LINE_BYTES % PAGE_LINES) ≡ LINE_BYTES * (address / LINE_BYTES) = omega (arith, start, aligned) in
+    subst (IsLineHeld lines memory space) at (taken.hand_is (address / LINE_BYTES % PAGE_LINES) (omega arith) taken.has.known).1
 
 -- the line of the first address, and the place of the first word in it
 module _ (extension : Bool) (lines : List (List ℕ)) (view : View) (first k pc : ℕ) (held : IsLineHeld lines view.memory.now view.space (LINE_BYTES * (first / LINE_BYTES)))
@@ -174,7 +182,7 @@ pub begun_run : (extension : Bool) (stops : Addresses) (lines : List (List ℕ))
 begun_run extension stops lines view process most pc k words none is running ready taken =
     let held = held_at lines view.memory.now view.space view.hand pc (subst (IsReached lines view.memory.now view.space view.hand) (sym is) taken) in
     let low = held.low in
-    let aligned = taken.aligned in
+    let aligned = aligned_at lines view.memory.now view.space view.hand process.regs.pc taken in
     let owes : view.hand.owed ≡ view.hand.owed + 0 = omega arith in
     let first : AreLikeExecutions (after_steps 0 (executions stops view.space (most - 0) (guest_ahead (view.hand.owed + 0) (guest_lent extension view process))))
     (executions stops view.space most (guest_ahead view.hand.owed (guest_lent extension view process))) =
@@ -243,7 +251,7 @@ module _ (extension : Bool) (stops : Addresses) (lines : List (List ℕ)) (old m
 
     -- or the run goes on
     pub goes_on : new.memory.ghost_name ≡ mid.memory.ghost_name → new.space ≡ mid.space → IsReadyView new → after.saved ≡ process.saved
-        → IsBeside mid.space (spaces_lent mid) (spaces_lent new) → IsOn mid new process.regs.pc after.regs.pc o → old.hand.page ≡ pc / PAGE_BYTES
+        → IsBeside mid.space (spaces_lent mid) (spaces_lent new) → IsOn mid new process.regs.pc after.regs.pc o → page_in old.hand ≡ pc / PAGE_BYTES
         → AreRun extension stops lines old new before after most pc words (drop 1 rest) (count - length (drop 1 rest))
     goes_on loan space ready saved beside on page =
         let n = length-drop 1 rest in
@@ -259,7 +267,7 @@ module _ (extension : Bool) (stops : Addresses) (lines : List (List ℕ)) (old m
           beside = both_beside old.space (spaces_lent old) (spaces_lent mid) (spaces_lent new) so.beside (subst (λ p. IsBeside p (spaces_lent mid) (spaces_lent new)) so.space beside);
           kept = on.keeps.0 ∙ so.kept;
           here = on_here (LINE_BYTES * (pc / LINE_BYTES)) (pc / 4 % LINE_WORDS) done process.regs.pc after.regs.pc so.line.whole so.line.low is_inside so.here on.next_is;
-          line = on.keeps.1 lines (LINE_BYTES * (pc / LINE_BYTES)) so.line (sym (start_page pc) ∙ sym page ∙ sym (ap (λ (h : Hand). h.page) so.kept));
+          line = on.keeps.1 lines (LINE_BYTES * (pc / LINE_BYTES)) so.line (sym (start_page pc) ∙ sym page ∙ sym (ap page_in so.kept));
           hand_is = subst (IsInHand lines new.memory.now new.space) so.kept
               (keeps_in_hand lines mid new on.keeps (subst (IsInHand lines mid.memory.now mid.space) (sym so.kept) so.hand_is));
           rest_is = ap (drop 1) so.rest_is ∙ drop-drop 1 done words;

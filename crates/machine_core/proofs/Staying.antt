@@ -1,11 +1,11 @@
 use Rattle.std.proofs.Common.{◌≡◌, ℕ, ◌*◌, ◌+◌, ◌/◌, ◌%◌, inl, inr, List, [], get_or, sym, ap, subst, ◌∙◌, refl, arith}
-use Rattle.sizes.specs.declared.TheConstants.{LINE_BYTES, PAGE_BYTES}
+use Rattle.sizes.specs.declared.TheConstants.{LINE_BYTES}
 use Rattle.overlay_bits.specs.Lines.{has_line}
 use Rattle.overlay_memory.specs.Code.{IsCodeLine}
 use Rattle.overlay_memory.specs.View.{TranslatedView}
 use Rattle.decoded_lines.specs.declared.TheConstants.{KEPT_LINES}
 use Rattle.machine_core.specs.Held.{IsInHand}
-use Rattle.machine_core.specs.InHand.{IsLineHeld, KeepsHand, StaysInHand, lost}
+use Rattle.machine_core.specs.InHand.{IsLineHeld, KeepsHand, StaysInHand, lost, page_in}
 use Rattle.machine_core.specs.declared.hand.Hand.{Hand}
 use Rattle.machine_core.specs.declared.view.View.{View}
 
@@ -27,7 +27,7 @@ stays_same old new is = inl (keeps_same old new is)
 -- one after the other
 pub stays_both : (old mid new : View) → StaysInHand old mid → StaysInHand mid new → StaysInHand old new
 stays_both old mid new (inl one) (inl two) =
-    inl (two.0 ∙ one.0, λ lines start held page. two.1 lines start (one.1 lines start held page) (page ∙ sym (ap (λ (h : Hand). h.page) one.0)))
+    inl (two.0 ∙ one.0, λ lines start held page. two.1 lines start (one.1 lines start held page) (page ∙ sym (ap page_in one.0)))
 stays_both old mid new (inl one) (inr two) = inr (two ∙ ap lost one.0)
 stays_both old mid new (inr one) (inl two) = inr (two.0 ∙ one)
 stays_both old mid new (inr one) (inr two) = inr (two ∙ ap lost one)
@@ -44,7 +44,8 @@ none_in_hand lines memory space hand none line low has = absurd (let lacks = ap 
 -- those that were are held still
 pub keeps_in_hand : (lines : List (List ℕ)) (old new : View) → KeepsHand old new → IsInHand lines old.memory.now old.space old.hand → IsInHand lines new.memory.now new.space old.hand
 keeps_in_hand lines old new keeps held line low has =
-    keeps.1 lines (PAGE_BYTES * old.hand.page + LINE_BYTES * line) (held line low has) (omega (arith, low))
+    let whole = (held line low has).0 in
+    (whole, keeps.1 lines (old.hand.start + LINE_BYTES * line) (held line low has).1 (omega (arith, low, whole)))
 
 pub stays_in_hand : (lines : List (List ℕ)) (old new : View) → StaysInHand old new → IsInHand lines old.memory.now old.space old.hand
     → IsInHand lines new.memory.now new.space new.hand

@@ -29,21 +29,24 @@ use Rattle.machine_core.specs.declared.view.View.{View}
 
 -- The lines that instructions are taken from, decoded.
 
--- Lines stand among those that are decoded.
+-- Lines of a page stand among those that are decoded.
 abbrev pub IsInHand : List (List ℕ) → TranslatedView → ℕ → Hand → Type 0
 IsInHand lines memory space hand =
-    (line : ℕ) → line < PAGE_LINES → has_line hand.known line ≡ true → IsLineHeld lines memory space (PAGE_BYTES * hand.page + LINE_BYTES * line)
+    (line : ℕ) → line < PAGE_LINES → has_line hand.known line ≡ true
+    → (hand.start % PAGE_BYTES ≡ 0) × IsLineHeld lines memory space (hand.start + LINE_BYTES * line)
 
--- the line of an address is one of them
+-- The line of an address is one of them. Where the page has lines, what its start is says that the address is aligned.
+pub record HasLine (hand : Hand) (address : ℕ) : Type 0 where
+  pub start : hand.start ≡ PAGE_BYTES * (address / PAGE_BYTES) + address % 4
+  pub known : has_line hand.known (address / LINE_BYTES % PAGE_LINES) ≡ true
+
 pub record IsReached (lines : List (List ℕ)) (memory : TranslatedView) (space : ℕ) (hand : Hand) (address : ℕ) : Type 0 where
   pub hand_is : IsInHand lines memory space hand
-  pub page : hand.page ≡ address / PAGE_BYTES
-  pub aligned : address % 4 ≡ 0
-  pub known : has_line hand.known (address / LINE_BYTES % PAGE_LINES) ≡ true
+  pub has : HasLine hand address
 
 -- the lines of a page, none where it was another page
 abbrev pub IsTurned : ℕ → Hand → Hand → Type 0
-IsTurned page old new = (new.page ≡ page) × ((new ≡ old) ⊎ (new ≡ record { page = page; known = []; owed = old.owed }))
+IsTurned start old new = (new.start ≡ start) × ((new ≡ old) ⊎ (new ≡ record { start = start; known = []; owed = old.owed }))
 
 -- so many words from an address on lie in one line, and those behind the first are at no stop
 abbrev pub AreInLine : ℕ → ℕ → Type 0
@@ -93,7 +96,7 @@ pub record IsOn (old new : View) (pc next : ℕ) (outcome : Outcome) : Type 0 wh
 
 -- so many more fetches are owed
 abbrev pub owing : Hand → ℕ → Hand
-owing hand n = record { page = hand.page; known = hand.known; owed = hand.owed + n }
+owing hand n = record { start = hand.start; known = hand.known; owed = hand.owed + n }
 
 -- What is true behind some steps.
 pub record HoldsOn (lines : List (List ℕ)) (view : View) (owed n : ℕ) : Type 0 where

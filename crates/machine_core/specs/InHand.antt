@@ -21,13 +21,17 @@ KeepsLines page old new =
     (lines : List (List ℕ)) (start : ℕ) → IsLineHeld lines old.memory.now old.space start → start / PAGE_BYTES ≡ page
     → IsLineHeld lines new.memory.now new.space start
 
+-- the page that they are of
+abbrev pub page_in : Hand → ℕ
+page_in hand = hand.start / PAGE_BYTES
+
 -- the same lines are in hand, and are held
 abbrev pub KeepsHand : View → View → Type 0
-KeepsHand old new = (new.hand ≡ old.hand) × KeepsLines old.hand.page old new
+KeepsHand old new = (new.hand ≡ old.hand) × KeepsLines (page_in old.hand) old new
 
 -- none are
 abbrev pub lost : Hand → Hand
-lost hand = record { page = hand.page; known = []; owed = hand.owed }
+lost hand = record { start = hand.start; known = []; owed = hand.owed }
 
 abbrev pub StaysInHand : View → View → Type 0
 StaysInHand old new = KeepsHand old new ⊎ (new.hand ≡ lost old.hand)
@@ -38,8 +42,8 @@ is_apart address page = not (address / PAGE_BYTES % SETS == page % SETS) && nat_
 
 -- what any other access leaves
 abbrev pub parted : ℕ → Hand → Hand
-parted address hand = if is_apart address hand.page then hand else lost hand
+parted address hand = if is_apart address (page_in hand) then hand else lost hand
 
 -- and a store to a page that stays where it is in its list
 abbrev pub without_page : ℕ → Hand → Hand
-without_page page hand = if page == hand.page then lost hand else hand
+without_page page hand = if page == page_in hand then lost hand else hand

@@ -1,8 +1,8 @@
 //! The lines that instructions are taken from, decoded.
 
-ghost use Rattle.std.specs.Prelude.{◌≡◌, ◌/◌, ◌%◌, ◌<◌, [], true};
+ghost use Rattle.std.specs.Prelude.{◌≡◌, ◌*◌, ◌/◌, ◌%◌, ◌<◌, [], true};
 ghost use Rattle.sizes.specs.declared.TheConstants.{LINE_BYTES, PAGE_BYTES, PAGE_LINES};
-ghost use Rattle.machine_core.specs.Held.{IsInHand, IsReached, IsTurned};
+ghost use Rattle.machine_core.specs.Held.{HasLine, IsInHand, IsReached, IsTurned};
 ghost use Rattle.machine_core.specs.InHand.{is_apart, lost, parted, without_page};
 
 use decoded_lines::DecodedLines;
@@ -13,11 +13,11 @@ use rv_decode::Decoder;
 use sizes::{LINE_BYTES, PAGE_BYTES, PAGE_LINES};
 use translation_cache::SETS;
 
-/// Lines of a page: its number, and those of its lines that stand decoded. A fetch from one of them is a hit that moves nothing; how many
+/// Lines of a page: where it starts, and those of its lines that stand decoded. A fetch from one of them is a hit that moves nothing; how many
 /// of these are still to be counted is kept here.
 #[derive(Clone, Copy, Debug)]
 pub(crate) struct Hand {
-    pub(crate) page: u64,
+    pub(crate) start: u64,
     pub(crate) known: Bits,
     pub(crate) owed: u32,
 }
@@ -28,6 +28,14 @@ pub(crate) fn page_of(address: u64) -> u64
     ensures { result ≡ address / PAGE_BYTES }
 {
     address / PAGE_BYTES as u64
+}
+
+/// The start of the page of an address.
+#[inline(always)]
+fn start_of(address: u64) -> u64
+    ensures { result ≡ PAGE_BYTES * (address / PAGE_BYTES) }
+{
+    address - address % PAGE_BYTES as u64
 }
 
 /// The number of the line of its page that an address lies in.
@@ -51,10 +59,10 @@ fn is_apart(address: u64, page: u64) -> bool
 impl Hand {
     /// No line.
     pub(crate) fn none() -> Hand
-        ensures { result ≡ record { page = 0; known = []; owed = 0 } }
+        ensures { result ≡ record { start = 0; known = []; owed = 0 } }
     {
         Hand {
-            page: 0,
+            start: 0,
             known: Bits::empty(),
             owed: 0,
         }
@@ -73,7 +81,7 @@ impl Hand {
     pub(crate) fn part(&mut self, address: u64)
         ensures { self.new ≡ parted address self.old }
     {
-        if !is_apart(address, self.page) {
+        if !is_apart(address, page_of(self.start)) {
             self.lose();
         }
     }
@@ -83,27 +91,25 @@ impl Hand {
     pub(crate) fn lose_page(&mut self, page: u64)
         ensures { self.new ≡ without_page page self.old }
     {
-        if page == self.page {
+        if page == page_of(self.start) {
             self.lose();
         }
     }
 
-    /// The lines of another page, none so far, where it isn't that page.
+    /// The lines of the page that starts there, none so far, where it was another page.
     #[inline]
-    fn turn_to(&mut self, page: u64)
-        ensures { IsTurned page self.old self.new }
+    fn turn_to(&mut self, start: u64)
+        ensures { IsTurned start self.old self.new }
     {
-        if self.page != page {
-            self.page = page;
-            self.known = Bits::empty();
+        if self.start != start {
+            self.start = start;
+            self.lose();
         }
     }
 
     /// Takes the line of the instruction at pc, where its page may be executed and is known to be at the front of its list. Answers
     /// whether it did.
-    #[cold]
-    #[inline(never)]
-    fn take<D: Decoder>(
+    pub(crate) fn take<D: Decoder>(
         &mut self,
         memory: &OverlayMemory,
         space: u16,
@@ -120,7 +126,7 @@ impl Hand {
         match memory.front_line(space, pc, Perms::X) {
             Some(line) => {
                 lines.enter(pc / LINE_BYTES as u64, line);
-                self.turn_to(page_of(pc));
+                self.turn_to(start_of(pc));
                 self.known = self.known.with(line_of(pc));
                 true
             }
@@ -128,22 +134,11 @@ impl Hand {
         }
     }
 
-    /// Has the line of the instruction at pc in hand, where it is there or can be taken. Answers whether it has.
-    #[inline]
-    pub(crate) fn reach<D: Decoder>(
-        &mut self,
-        memory: &OverlayMemory,
-        space: u16,
-        lines: &mut DecodedLines<D>,
-        pc: u64,
-    ) -> bool
-        requires hand { IsInHand lines.old memory.now space self.old }
-        ensures taken { result ≡ true → IsReached lines.new memory.now space self.new pc }
-        ensures owed { self.new.owed ≡ self.old.owed }
+    /// Whether the line of the instruction at pc is in hand. One compare tells the page and whether pc is aligned.
+    #[inline(always)]
+    pub(crate) fn has_line(&self, pc: u64) -> bool
+        ensures { result ≡ true → HasLine self.now pc }
     {
-        if page_of(pc) == self.page && pc % 4 == 0 && self.known.has(line_of(pc)) {
-            return true;
-        }
-        self.take(memory, space, lines, pc)
+        start_of(pc) + pc % 4 == self.start && self.known.has(line_of(pc))
     }
 }

@@ -267,8 +267,6 @@ fn run<const EXTENSION: bool>(
 
 /// Has the line of the instruction at pc in hand where its page is known, and has only to be brought to the front of its list. That is its
 /// fetch, which is made at once, in the place of one that is owed. Answers whether the line is in hand then.
-#[cold]
-#[inline(never)]
 fn bring<const EXTENSION: bool>(
     process: &Process,
     view: &mut View,
@@ -286,12 +284,13 @@ fn bring<const EXTENSION: bool>(
     }
     view.hand.owed -= 1;
     view.hand.lose();
-    view.hand.reach(&*view.memory, view.space, lines, pc)
+    view.hand.take(&*view.memory, view.space, lines, pc)
 }
 
-/// Has the line of the instruction at pc in hand, where it is there, or can be taken or brought. Answers whether it has.
-#[inline(always)]
-fn reach<const EXTENSION: bool>(
+/// Has the line of the instruction at pc in hand, where it can be taken or brought. Answers whether it has.
+#[cold]
+#[inline(never)]
+fn take_or_bring<const EXTENSION: bool>(
     process: &Process,
     view: &mut View,
     lines: &mut DecodedLines<Instructions<EXTENSION>>,
@@ -300,13 +299,25 @@ fn reach<const EXTENSION: bool>(
     requires hand { IsInHand lines.old view.old.memory.now view.old.space view.old.hand }
     ensures { HasReached EXTENSION lines.new process.now view.old view.new result }
 {
-    if view
-        .hand
-        .reach(&*view.memory, view.space, lines, process.regs.pc())
-    {
+    let pc = process.regs.pc();
+    if view.hand.take(&*view.memory, view.space, lines, pc) {
         return true;
     }
     bring(process, view, lines)
+}
+
+/// Has the line of the instruction at pc in hand, where it is there, or can be taken or brought. Answers whether it has.
+#[inline(always)]
+fn have_line<const EXTENSION: bool>(
+    process: &Process,
+    view: &mut View,
+    lines: &mut DecodedLines<Instructions<EXTENSION>>,
+) -> bool
+    requires ready { IsReadyView view.old }
+    requires hand { IsInHand lines.old view.old.memory.now view.old.space view.old.hand }
+    ensures { HasReached EXTENSION lines.new process.now view.old view.new result }
+{
+    view.hand.has_line(process.regs.pc()) || take_or_bring(process, view, lines)
 }
 
 /// Executes some instructions, at most so many, as `run` does, where the line of the first one is in hand, or can be taken or brought, and else one. Answers how
@@ -327,7 +338,7 @@ fn advance<const EXTENSION: bool>(
     ensures { HasRun EXTENSION (stops_in stops.entry) most lines.new
         process.old process.new view.old view.new result.0 result.1 }
 {
-    if reach(process, view, lines) {
+    if have_line(process, view, lines) {
         return run(process, view, lines, most, stops);
     }
     apart(process, view, lines, most, stops)

@@ -1,6 +1,7 @@
 //! The memory of one space, as an instruction sees it.
 
-ghost use Rattle.std.specs.Prelude.{◌≡◌, IsSome, IsTrue, Some, Ok, Err, length, true, false};
+ghost use Rattle.std.specs.Prelude.{◌≡◌, ◌+◌, ◌%◌, ◌<◌, ◌≤◌, IsSome, IsTrue, Some, Ok, Err, length, true, false};
+ghost use Rattle.sizes.specs.declared.TheConstants.{LINE_BYTES};
 ghost use Rattle.rv_execute.specs.Calls.{is_count, load_at};
 ghost use Rattle.machine_core.specs.Access.{IsReadyView, IsStoredBy, IsUnchanged, LoadsLent, StoresLent, failed_at, lists_lent, refusal_of, spaces_lent};
 ghost use Rattle.machine_core.specs.Ahead.{ahead};
@@ -8,13 +9,22 @@ ghost use Rattle.machine_core.specs.Ahead.{ahead};
 use crate::hand::{Hand, page_of};
 use bitflags::Flags;
 use byteorder::{ByteOrder, LittleEndian};
-use overlay_memory::{MemoryError, OverlayMemory, is_in_line};
+use overlay_memory::{MemoryError, OverlayMemory};
 use ovl_io::Perms;
 use rv_execute::{Denied, GuestMemory, Refused};
 use sizes::LINE_BYTES;
 
 /// The most bytes of an access.
 const MOST_BYTES: usize = 8;
+
+/// Whether an access of 1, 2, 4 or 8 bytes is aligned, as most are, and so in one line.
+#[inline(always)]
+fn is_aligned(address: u64, count: usize) -> bool
+    requires { IsTrue (is_count count) }
+    ensures { result ≡ true → (0 < count) × (address % LINE_BYTES + count ≤ LINE_BYTES) }
+{
+    address % count as u64 == 0
+}
 
 /// The memory of all spaces, the number of one that is there, and the lines of it that are in hand.
 #[derive(Drop)]
@@ -62,7 +72,7 @@ impl<'a> View<'a> {
         }
     }
 
-    /// As `load`, of bytes that aren't in one line of a page known to be at the front of its list. Answers whether they may be read, and
+    /// As `load`, of bytes that aren't aligned, or whose page isn't known to be at the front of its list. Answers whether they may be read, and
     /// writes down the first one that mayn't.
     #[cold]
     #[inline(never)]
@@ -106,7 +116,7 @@ impl<'a> View<'a> {
         Err(Denied { address: at })
     }
 
-    /// As `store`, of bytes that aren't put in one line of a page known to be at the front of its list. Answers whether they were stored,
+    /// As `store`, of bytes that aren't aligned, or aren't put where they stand in a page known to be at the front. Answers whether they were stored,
     /// and writes down why not.
     #[cold]
     #[inline(never)]
@@ -178,10 +188,11 @@ impl<'a> GuestMemory for View<'a> {
         }
     }
 
-    // A line of a page at the front of its list is read where it stands: nothing moves, and the lines stay in hand.
+    // A line of a page at the front of its list is read where it stands: nothing moves, and the lines stay in hand. What isn't aligned
+    // goes the long way.
     #[inline(always)]
     fn load(&mut self, address: u64, into: &mut [u8]) -> Result<(), Denied> {
-        if is_in_line(address, into.len()) {
+        if is_aligned(address, into.len()) {
             match self.memory.front_line(self.space, address, Perms::R) {
                 Some(line) => {
                     let at = (address % LINE_BYTES as u64) as usize;
@@ -198,7 +209,7 @@ impl<'a> GuestMemory for View<'a> {
     // After a store the units are asked for what their contract says alone: that there are enough.
     #[inline(always)]
     fn store(&mut self, address: u64, bytes: &[u8]) -> Result<(), Refused> {
-        if is_in_line(address, bytes.len()) && self.memory.store_front(self.space, address, bytes) {
+        if is_aligned(address, bytes.len()) && self.memory.store_front(self.space, address, bytes) {
             self.hand.lose_page(page_of(address));
             let _ = self.memory.units();
             return Ok(());

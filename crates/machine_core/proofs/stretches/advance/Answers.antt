@@ -7,17 +7,17 @@ use Rattle.machine_core.proofs.stretches.advance.Goals as goal
 pub run-requires : goal.run-requires
 run-requires g c = (
   omega arith,
-  (c.requires.runs, (c.reach.ensures.ready, (c.reach.ensures.taken c.if-reach.true, (c.requires.some, omega (arith, c.requires.few, c.reach.ensures.owed))))),
+  (c.requires.runs, (c.have_line.ensures.ready, (c.have_line.ensures.taken c.if-have_line.true, (c.requires.some, omega (arith, c.requires.few, c.have_line.ensures.owed))))),
 )
 
-pub returns-then-reach : goal.returns-then-reach
-returns-then-reach g c =
-    let at = c.reach.ensures in
-    run_reached (truth g.row.EXTENSION) (stops_in c.args.stops) c.args.most c.reach.new.lines c.args.process.now c.run.new.process c.args.view.now c.reach.new.view c.run.new.view _ _
+pub returns-then-have_line : goal.returns-then-have_line
+returns-then-have_line g c =
+    let at = c.have_line.ensures in
+    run_reached (truth g.row.EXTENSION) (stops_in c.args.stops) c.args.most c.have_line.new.lines c.args.process.now c.run.new.process c.args.view.now c.have_line.new.view c.run.new.view _ _
     at.loan at.space at.spaces at.owed at.from c.requires.some c.run.ensures
 
 pub returns : goal.returns
 returns g c =
-    let at = c.reach.ensures in
-    run_reached (truth g.row.EXTENSION) (stops_in c.args.stops) c.args.most c.reach.new.lines c.args.process.now c.apart.new.process c.args.view.now c.reach.new.view c.apart.new.view _ _
+    let at = c.have_line.ensures in
+    run_reached (truth g.row.EXTENSION) (stops_in c.args.stops) c.args.most c.have_line.new.lines c.args.process.now c.apart.new.process c.args.view.now c.have_line.new.view c.apart.new.view _ _
     at.loan at.space at.spaces at.owed at.from c.requires.some c.apart.ensures

@@ -23,7 +23,7 @@ returns g c =
     let memory = c.bring_front.new.self in
     let done = c.if-not-bring_front.false in
     let same = ap seen.state_of c.bring_front.ensures.same in
-    let owed = c.reach.ensures.owed ∙ ap (λ (h : Hand). h.owed) c.lose.ensures in
+    let owed = c.take.ensures.owed ∙ ap (λ (h : Hand). h.owed) c.lose.ensures in
     let one : view.hand.owed - 1 + 1 ≡ view.hand.owed = omega (arith, c.if-view-eq0.false) in
     record {
       ready = record {
@@ -34,7 +34,7 @@ returns g c =
       space = refl;
       spaces = same;
       owed = omega (arith, owed);
-      taken = λ is. subst (IsReached c.reach.new.lines memory view.space c.reach.new.self) c.pc-pc.ensures (c.reach.ensures.taken is);
+      taken = λ is. subst (IsReached c.take.new.lines memory view.space c.take.new.self) c.pc-pc.ensures (c.take.ensures.taken is);
       from = λ stops most n o next left some comes.
           subst (λ k. Comes stops view.space most (guest_ahead k (guest_lent (truth g.row.EXTENSION) view process)) n o next) one
           (comes_fetched (truth g.row.EXTENSION) stops view.space (spaces_lent view) (state_of memory) (lists_lent view) (translations_of memory) process most (view.hand.owed - 1) n o next

@@ -10,7 +10,7 @@ use Rattle.machine_core.specs.Executions.{AreLikeExecutions, Comes, after_steps,
 use Rattle.machine_core.specs.Held.{HoldsOn, IsInHand}
 use Rattle.machine_core.specs.Kept.{IsBeside, guest_lent}
 use Rattle.machine_core.specs.declared.hand.Hand.{Hand}
-use Rattle.machine_core.proofs.Runs.{AreRun, begun_run, both_beside, ends, ends_running, first_is, goes_on, holds_on, next_word, rest_of}
+use Rattle.machine_core.proofs.Runs.{AreRun, aligned_at, begun_run, both_beside, ends, ends_running, first_is, goes_on, holds_on, next_word, rest_of}
 use Rattle.machine_core.proofs.Staying.{stays_in_hand, stays_owed}
 use Rattle.machine_core.proofs.Stepping.{is_so_far, so_far}
 use Rattle.machine_core.proofs.Constants.{truth}
@@ -33,13 +33,16 @@ running-preserved g c =
     let few_is : c.count_from-count.result ≤ c.args.most = (let f = c.count_from-count.ensures.few in let m = c.min.ensures in omega (arith, f, m)) in
     let inside_is : c.pc-pc.result / 4 % LINE_WORDS + c.count_from-count.result ≤ LINE_WORDS =
     (let f = c.count_from-count.ensures.few in let m = c.min.ensures in let w = c.words_from-words.ensures.count in omega (arith, f, m, w)) in
-    let aligned_is = ap (λ n. n % 4) c.pc-pc.ensures ∙ c.requires.taken.aligned in
+    let aligned_is = ap (λ n. n % 4) c.pc-pc.ensures
+    ∙ aligned_at c.args.lines.now c.args.view.now.memory.now c.args.view.now.space c.args.view.now.hand c.args.process.now.regs.pc c.requires.taken in
     let some_is : 0 < length c.running.rest.now = (let test = c.running-test.true in let has = c.is_empty-in-running.ensures in grind (arith, nat_tests)) in
     let on = came.ensures.on c.if-not-on.false in
+    let page_is : c.args.view.now.hand.start / PAGE_BYTES ≡ c.pc-pc.result / PAGE_BYTES =
+    (let start = c.requires.taken.has.start in let pc = c.pc-pc.ensures in omega (arith, start, pc)) in
     let goes = goes_on (truth g.row.EXTENSION) (stops_in c.args.stops) c.args.lines.now c.args.view.now c.running.view c.args.process.now c.running.process
     c.args.most c.pc-pc.result c.count_from-count.result (take c.count_from-count.result c.words_from-words.result.now) c.running.rest.now c.running.invariant.so few_is c.running.invariant.within some_is inside_is aligned_is c.count_from-count.ensures.past came.new.view came.new.process came.result.0
     came.ensures.outcome came.ensures.after came.ensures.loan came.ensures.space
-    came.ensures.ready came.ensures.saved came.ensures.beside on (c.requires.taken.page ∙ sym (ap (λ n. n / PAGE_BYTES) c.pc-pc.ensures)) in
+    came.ensures.ready came.ensures.saved came.ensures.beside on page_is in
     let n = length-drop 1 c.running.rest.now in
     let within = c.running.invariant.within in
     subst (λ r. record {
@@ -53,7 +56,8 @@ execute_word-outcome-requires-clause-word g c =
     let few_is : c.count_from-count.result ≤ c.args.most = (let f = c.count_from-count.ensures.few in let m = c.min.ensures in omega (arith, f, m)) in
     let inside_is : c.pc-pc.result / 4 % LINE_WORDS + c.count_from-count.result ≤ LINE_WORDS =
     (let f = c.count_from-count.ensures.few in let m = c.min.ensures in let w = c.words_from-words.ensures.count in omega (arith, f, m, w)) in
-    let aligned_is = ap (λ n. n % 4) c.pc-pc.ensures ∙ c.requires.taken.aligned in
+    let aligned_is = ap (λ n. n % 4) c.pc-pc.ensures
+    ∙ aligned_at c.args.lines.now c.args.view.now.memory.now c.args.view.now.space c.args.view.now.hand c.args.process.now.regs.pc c.requires.taken in
     let some_is : 0 < length c.running.rest.now = (let test = c.running-test.true in let has = c.is_empty-in-running.ensures in grind (arith, nat_tests)) in
     next_word (truth g.row.EXTENSION) (stops_in c.args.stops) c.args.lines.now c.args.view.now c.running.view c.args.process.now c.running.process
     c.args.most c.pc-pc.result c.count_from-count.result (take c.count_from-count.result c.words_from-words.result.now) c.running.rest.now c.running.invariant.so
@@ -66,7 +70,8 @@ returns-then-not-on g c =
     let few_is : c.count_from-count.result ≤ c.args.most = (let f = c.count_from-count.ensures.few in let m = c.min.ensures in omega (arith, f, m)) in
     let inside_is : c.pc-pc.result / 4 % LINE_WORDS + c.count_from-count.result ≤ LINE_WORDS =
     (let f = c.count_from-count.ensures.few in let m = c.min.ensures in let w = c.words_from-words.ensures.count in omega (arith, f, m, w)) in
-    let aligned_is = ap (λ n. n % 4) c.pc-pc.ensures ∙ c.requires.taken.aligned in
+    let aligned_is = ap (λ n. n % 4) c.pc-pc.ensures
+    ∙ aligned_at c.args.lines.now c.args.view.now.memory.now c.args.view.now.space c.args.view.now.hand c.args.process.now.regs.pc c.requires.taken in
     let some_is : 0 < length c.running.rest.now = (let test = c.running-test.true in let has = c.is_empty-in-running.ensures in grind (arith, nat_tests)) in
     let k = c.count_from-count.result - length c.running.rest.now in
     let so = c.running.invariant.so in
@@ -95,7 +100,7 @@ returns-then-not-on g c =
           let held = subst (IsInHand c.args.lines.now c.running.view.memory.now c.running.view.space) (sym so.kept) so.hand_is in
           let owed = stays_owed c.running.view came.new.view came.ensures.stays ∙ ap (λ (h : Hand). h.owed) so.kept in
           subst (λ (h : Hand). HoldsOn c.args.lines.now (record { memory = came.new.view.memory; space = came.new.view.space; hand = h }) c.args.view.now.hand.owed c.leave.result.0) (sym c.leave.ensures.left)
-          (subst (λ n. HoldsOn c.args.lines.now (record { memory = came.new.view.memory; space = came.new.view.space; hand = record { page = came.new.view.hand.page; known = came.new.view.hand.known; owed = came.new.view.hand.owed + (k + 1) } })
+          (subst (λ n. HoldsOn c.args.lines.now (record { memory = came.new.view.memory; space = came.new.view.space; hand = record { start = came.new.view.hand.start; known = came.new.view.hand.known; owed = came.new.view.hand.owed + (k + 1) } })
           c.args.view.now.hand.owed n) (sym steps)
           (holds_on c.args.lines.now came.new.view came.new.view.hand c.args.view.now.hand.owed (k + 1) came.ensures.ready
           (stays_in_hand c.args.lines.now c.running.view came.new.view came.ensures.stays held) owed (omega arith)));
