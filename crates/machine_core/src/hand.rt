@@ -109,6 +109,7 @@ impl Hand {
 
     /// Takes the line of the instruction at pc, where its page may be executed and is known to be at the front of its list. Answers
     /// whether it did.
+    #[inline(always)]
     pub(crate) fn take<D: Decoder>(
         &mut self,
         memory: &OverlayMemory,
