@@ -9,7 +9,7 @@ use Rattle.unit_map.specs.Laws.{by_order, equal_or_apart, within}
 use Rattle.unit_map.specs.declared.block.Block.{Block}
 use Rattle.overlay_bits.specs.Lines.{AreLines, has_line}
 use Rattle.segment_store.specs.Pointers.{ArePointers, capacity_of, slot_of}
-use Rattle.segment_store.specs.Store.{IsFrame, IsSegment, Store, frame_line, frame_place, line_in, lines_at, place_in, place_of, segment_at, with_line_at, with_lines_at}
+use Rattle.segment_store.specs.Store.{HoldsLine, IsFrame, IsSegment, Store, frame_line, frame_place, line_in, lines_at, place_in, place_of, segment_at, with_line_at, with_lines_at}
 use Rattle.segment_store.specs.Kept.{IsStore}
 use Rattle.segment_store.specs.Places.{HasBlock, LiesIn}
 use Rattle.segment_store.specs.Changes.{HasLinesNow, KeepsFrame, KeepsFrames, KeepsLinesOutside, KeepsOtherSegments, KeepsScratch, KeepsSegment, KeepsSegments, block_of}
@@ -354,6 +354,29 @@ pub set_place : (store : Store) → IsStore store → (block : Block) → IsSegm
 set_place store is block there line has bytes other =
     place_same (with_line_at store (place_of store block line) bytes).lines store.lines block.unit block.order other (block_in store is block there).order
     (λ h. ap (λ p. slot_of p other) (set_first store is block there line has bytes h))
+
+-- and a line that is written where one stands moves none of any segment
+pub places_set : (store : Store) → IsStore store → (at : ℕ) → HoldsLine store at → (bytes : List ℕ) → (block : Block) → IsSegment store block → (line : ℕ) → has_line (lines_at store block.unit) line ≡ true
+    → place_of (with_line_at store at bytes) block line ≡ place_of store block line
+places_set store is at (inl s) bytes block there line has =
+    subst (λ n. place_of (with_line_at store n bytes) block line ≡ place_of store block line) s.at_is (by_unit (cases_eq block.unit s.block.unit))
+  where
+    new : Store
+    new = with_line_at store (place_of store s.block s.line) bytes
+
+    by_unit : (block.unit ≡ s.block.unit) ⊎ (block.unit ≡ s.block.unit → ⊥) → place_of new block line ≡ place_of store block line
+    by_unit (inl e) =
+        let order : s.block.order ≡ block.order = sym (same_order store s.block s.there there.segment (ap (segment_at store) (sym e) ∙ there.there)) ∙ there.order in
+        let one : s.block ≡ block = λ i. record { unit = (sym e) i; order = order i } in
+        subst (λ (b : Block). place_of new b line ≡ place_of store b line) one (set_place store is s.block s.there s.line s.has bytes line)
+    by_unit (inr n) =
+        let keeps = others_stay store new s.block.unit (4 * s.block.unit) (4 * 2 ^ s.block.order) (line_alters store is s.block s.there s.line s.has bytes) block.unit there.segment n there.there in
+        subst (λ k. place_in new.lines block.unit k line ≡ place_in store.lines block.unit k line) there.order (keeps.places line has)
+places_set store is at (inr f) bytes block there line has =
+    let new = with_line_at store (frame_place f.frame f.line) bytes in
+    let keeps = segments_stay store new (16 * f.frame) (64 * f.frame) 64 (frame_alters store is f.frame f.taken f.line f.low bytes) f.taken.alone block.unit there.segment there.there in
+    subst (λ n. place_of (with_line_at store n bytes) block line ≡ place_of store block line) f.at_is
+    (subst (λ k. place_in new.lines block.unit k line ≡ place_in store.lines block.unit k line) there.order (keeps.places line has))
 
 -- the line is what was left
 pub set_here : (store : Store) → IsStore store → (block : Block) → IsSegment store block → (line : ℕ) → has_line (lines_at store block.unit) line ≡ true → (bytes : List ℕ)

@@ -1,4 +1,4 @@
-use Rattle.std.specs.Prelude.{◌≡◌, ℕ, ◌+◌, ◌*◌, cond, nat_eq, List, [], Option, Some, None, option_map, slice_index_or, slice_set, take, drop}
+use Rattle.std.specs.Prelude.{◌≡◌, ℕ, ◌+◌, ◌*◌, ◌<◌, ◌⊎◌, true, cond, nat_eq, List, [], Option, Some, None, option_map, slice_index_or, slice_set, take, drop}
 use Rattle.std.specs.Option.{option_map_or}
 use Rattle.sizes.specs.declared.TheConstants.{FRAME_UNITS, PAGE_LINES, UNIT_LINES}
 use Rattle.line_store.specs.Lines.{line_of}
@@ -55,6 +55,24 @@ frame_line store frame line = line_of store.lines (frame_place frame line)
 pub record IsFrame (store : Store) (frame : ℕ) : Type 0 where
   pub taken : IsPiece store.blocks (taken_at (FRAME_UNITS * frame) 4)
   pub alone : segment_at store (FRAME_UNITS * frame) ≡ None
+
+-- a line of a segment stands at a place of the region, or one of a frame that is taken does
+pub record IsSegmentPlace (store : Store) (at : ℕ) : Type 0 where
+  pub block : Block
+  pub line : ℕ
+  pub there : IsSegment store block
+  pub has : has_line (lines_at store block.unit) line ≡ true
+  pub at_is : place_of store block line ≡ at
+
+pub record IsFramePlace (store : Store) (at : ℕ) : Type 0 where
+  pub frame : ℕ
+  pub line : ℕ
+  pub taken : IsFrame store frame
+  pub low : line < PAGE_LINES
+  pub at_is : frame_place frame line ≡ at
+
+abbrev pub HoldsLine : Store → ℕ → Type 0
+HoldsLine store at = IsSegmentPlace store at ⊎ IsFramePlace store at
 
 -- where scratch begins: behind the last unit
 abbrev pub scratch_place : Store → ℕ

@@ -12,7 +12,7 @@ ghost use Rattle.overlay_bits.specs.Composed.{composed};
 ghost use Rattle.overlay_bits.specs.Lines.{has_line};
 ghost use Rattle.segment_store.specs.contracts.store.SegmentStore.{the_row};
 ghost use Rattle.segment_store.specs.Pointers.{capacity_of};
-ghost use Rattle.segment_store.specs.Store.{segment_at, lines_at, place_of, line_in, frame_place, frame_line, frame_page, composed_line, scratch_page, with_frame_line, with_segment_line, lines_with, IsFrame, IsSegment};
+ghost use Rattle.segment_store.specs.Store.{segment_at, lines_at, place_of, line_in, frame_place, frame_line, frame_page, composed_line, scratch_place, scratch_page, with_frame_line, with_line_at, with_segment_line, lines_with, HoldsLine, IsFrame, IsSegment};
 ghost use Rattle.segment_store.specs.Kept.{IsStore};
 ghost use Rattle.segment_store.specs.Places.{BeginsLines};
 ghost use Rattle.segment_store.specs.Changes.{IsEmptyStore, BeginsSegment, CopiesSegment, EndsSegment, FillsFrame, HasLinesNow, Inserts, IsKept, Lays, Lifts, KeepsSegments, KeepsOtherSegments, KeepsFrames, KeepsOtherFrames, KeepsScratch, MakesMove, MakesMoves, SegmentsOutsideStay, WholeSegmentsStay, moved_lines};
@@ -140,6 +140,30 @@ impl SegmentStore {
         ensures store { IsStore self.old }
     {
         let at = places::place(&self.region, block, line);
+        self.region.line_mut(at)
+    }
+
+    /// Lends the line at a place of the region, before scratch. Costs a step.
+    #[inline]
+    pub fn line(&self, at: u32) -> &[u8; 64]
+        requires before_scratch { at < scratch_place self.now }
+        ensures value { result.now ≡ line_of self.now.lines at }
+        ensures bytes { length (line_of self.now.lines at) ≡ LINE_BYTES }
+        ensures store { IsStore self.now }
+    {
+        self.region.line(at)
+    }
+
+    /// Lends the line at a place of the region, at which a line of a segment or of a taken frame has to stand, for writing. What the
+    /// borrower leaves is the line, and nothing else changes. Costs a step.
+    #[inline]
+    pub fn line_mut(&mut self, at: u32) -> &mut [u8; 64]
+        requires holds { HoldsLine self.old at }
+        ensures* writes_back { sem 𝓛
+            (Lends the_row (Array byte 0) self.entry result (with_line_at self.old at)) }
+        ensures value { result.now ≡ line_of self.old.lines at }
+        ensures store { IsStore self.old }
+    {
         self.region.line_mut(at)
     }
 
