@@ -1,10 +1,10 @@
 use Rattle.overlay_pages.proofs.Common.{is_some, option_and_then, ◌≡◌, ℕ, ◌+◌, ◌*◌, ◌^◌, ◌<◌, ◌≤◌, ◌||◌, Bool, true, false, cond, nat_eq, List, [], Option, Some, None, IsSome, length, get_or, slice_index_or, slice_set, refl, true≢false, sym, ap, ap₂, subst, ◌∙◌, arith, inl, inr, pow_pos, nat_tests, none-some, same_Some, get_or-set_other, get_or-set_same, cases_eq}
 use Rattle.overlay_pages.proofs.Stores.{AreSettled, CanSettle, free_units, units_in, Block, AreLines, has_line, with_line, count_with, has_with, overlay_page, Entry, Segment, IsStore, capacity_of, Store, IsSegment, frame_line, line_in, lines_at, lines_with, scratch_line, segment_at, BeginsSegment, CopiesSegment, EndsSegment, HasLinesNow, Inserts, KeepsFrame, KeepsFrames, KeepsOtherSegments, Lays, block_of, inside_of, lines_there, order_of, refilled, stays_twice}
 use Rattle.overlay_pages.proofs.Books.{by_option, are, class, overlaid_pages, overlaid_few, class_none, changed_there, page_again, page_in, put_page, altered_page, LedgerView, PageView, ledger_of, lines_of, overlay_at, with_overlay}
-use Rattle.overlay_pages.proofs.Views.{page_lines, lines_same, set_line, state_page_there, discarded, joins, laid, laid_line, IsLaid, IsHeld, IsJoined, MemoryView, line_seen, page_state, segment_of, state_of, view_of, PageState, State}
+use Rattle.overlay_pages.proofs.Views.{page_lines, lines_same, set_line, state_page_there, discarded, joins, laid, laid_line, IsLaid, IsHeld, IsJoined, KeepsPlacesBut, MemoryView, line_seen, page_state, segment_of, state_of, view_of, PageState, State}
 use Rattle.overlay_pages.proofs.Sizes.{still_fits}
 use Rattle.overlay_pages.proofs.Steps.{overlay_lines, overlay_there, seen_bare, seen_inside, seen_outside, seen_overlaid}
-use Rattle.overlay_pages.proofs.Overlaying.{Overlays, overlays, segments_some}
+use Rattle.overlay_pages.proofs.Overlaying.{Overlays, overlays, overlays_places, segments_some}
 
 -- An overlay that ends, one that begins, and one that gets a line.
 
@@ -215,40 +215,48 @@ copied_by old new owner order named from to bits owner_is set b copies = record 
 }
 
 -- and got a line more, and it is that of a page that had none
-pub begun : (old : MemoryView) (began store : Store) (table : LedgerView) (s p : ℕ) (x : PageView) (block : Block) (bits : List ℕ) (line : ℕ) (bytes : List ℕ) → IsJoined old → page_in old.table s p ≡ Some x → x.overlay ≡ None
-    → AreLines bits → line < 64 → has_line bits line ≡ false → 2 ^ block.order ≡ class (length bits + 1) → IsLaid old.store began (overlay_page s p) block bits (scratch_line old.store) → Inserts began store block line bytes
-    → HasLinesNow began store block (lines_with began block line) → KeepsOtherSegments began block.unit store → KeepsFrames began store → IsStore store
-    → table ≡ with_overlay old.table s p (Some (record { bits = with_line bits line; block = block }))
-    → IsJoined (view_of store table) × (state_of (view_of store table) ≡ altered_page (laid old.store bits line bytes) (state_of old) s p)
-begun old began store table s p x block bits line bytes is there bare are low absent size so inserts now kept frames store_is table_is =
-    overlays old (view_of store table) s p x (Some (record { bits = with_line bits line; block = block })) is (record {
-      there = there;
-      table_is = table_is;
-      segments = segments_some old.store store s p x.overlay (record { bits = with_line bits line; block = block }) (λ f over. absurd (none-some f (sym bare ∙ over))) (λ _. so.fresh) now_there
-          (λ unit away. segment_beside began block.unit store.segments _ now.segments unit away ∙ so.elsewhere unit away)
-          (others_twice old.store began store block.unit so.kept kept) (omega (arith, count_now)) size_now
-          (subst AreSettled (sym now.blocks) (so.settled is.blocks)) (ap units_in now.blocks ∙ so.whole) store_is;
-      frames = frames_twice old.store began store so.frames frames;
-      free = omega (arith, ap free_units now.blocks, so.free, size_now, class_none, ap (λ (o : Option Entry). class (length (lines_of o))) bare);
-    }) (laid old.store bits line bytes)
-    (laid_page began old.store store block bits line bytes x
-    (record { here = inserts.here; others = λ i has other. inserts.lines i (ap (λ l. has_line l i) set_is ∙ has) ∙ so.lines i (are.inside i has) has })
-    (frames x.entry.frame (so.frames x.entry.frame (is.held s p x there).frame).stays) (so.frames x.entry.frame (is.held s p x there).frame).lines)
-  where
-    set_is : lines_at began block.unit ≡ bits
-    set_is = lines_there began block.unit _ so.there
+module _ (old : MemoryView) (began store : Store) (table : LedgerView) (s p : ℕ) (x : PageView) (block : Block) (bits : List ℕ) (line : ℕ) (bytes : List ℕ) (is : IsJoined old) (there : page_in old.table s p ≡ Some x)
+    (bare : x.overlay ≡ None) (are : AreLines bits) (low : line < 64) (absent : has_line bits line ≡ false) (size : 2 ^ block.order ≡ class (length bits + 1))
+    (so : IsLaid old.store began (overlay_page s p) block bits (scratch_line old.store)) (inserts : Inserts began store block line bytes) (now : HasLinesNow began store block (lines_with began block line))
+    (kept : KeepsOtherSegments began block.unit store) (frames : KeepsFrames began store) (store_is : IsStore store)
+    (table_is : table ≡ with_overlay old.table s p (Some (record { bits = with_line bits line; block = block }))) where
+  set_is : lines_at began block.unit ≡ bits
+  set_is = lines_there began block.unit _ so.there
 
-    now_there : segment_at store block.unit ≡ Some (segment_of s p (record { bits = with_line bits line; block = block }))
-    now_there =
-        ap (λ l. get_or l block.unit None) now.segments
-        ∙ refilled began.segments block.unit (record { owner = overlay_page s p; order = block.order; bits = bits }) (lines_with began block line) so.there (unit_low began so.store block.unit _ so.there)
-        ∙ ap (λ l. Some (record { owner = overlay_page s p; order = block.order; bits = with_line l line })) set_is
+  now_there : segment_at store block.unit ≡ Some (segment_of s p (record { bits = with_line bits line; block = block }))
+  now_there =
+      ap (λ l. get_or l block.unit None) now.segments
+      ∙ refilled began.segments block.unit (record { owner = overlay_page s p; order = block.order; bits = bits }) (lines_with began block line) so.there (unit_low began so.store block.unit _ so.there)
+      ∙ ap (λ l. Some (record { owner = overlay_page s p; order = block.order; bits = with_line l line })) set_is
 
-    count_now : length (with_line bits line) ≡ length bits + 1
-    count_now = count_with bits line are low ∙ ap (λ b. length bits + cond b 0 1) absent
+  count_now : length (with_line bits line) ≡ length bits + 1
+  count_now = count_with bits line are low ∙ ap (λ b. length bits + cond b 0 1) absent
 
-    size_now : 2 ^ block.order ≡ class (length (with_line bits line))
-    size_now = size ∙ ap class (sym count_now)
+  size_now : 2 ^ block.order ≡ class (length (with_line bits line))
+  size_now = size ∙ ap class (sym count_now)
+
+  begins : Overlays AreSettled old (view_of store table) s p x (Some (record { bits = with_line bits line; block = block }))
+  begins = record {
+    there = there;
+    table_is = table_is;
+    segments = segments_some old.store store s p x.overlay (record { bits = with_line bits line; block = block }) (λ f over. absurd (none-some f (sym bare ∙ over))) (λ _. so.fresh) now_there
+        (λ unit away. segment_beside began block.unit store.segments _ now.segments unit away ∙ so.elsewhere unit away)
+        (others_twice old.store began store block.unit so.kept kept) (omega (arith, count_now)) size_now
+        (subst AreSettled (sym now.blocks) (so.settled is.blocks)) (ap units_in now.blocks ∙ so.whole) store_is;
+    frames = frames_twice old.store began store so.frames frames;
+    free = omega (arith, ap free_units now.blocks, so.free, size_now, class_none, ap (λ (o : Option Entry). class (length (lines_of o))) bare);
+  }
+
+  pub begun : IsJoined (view_of store table) × (state_of (view_of store table) ≡ altered_page (laid old.store bits line bytes) (state_of old) s p)
+  begun =
+      overlays old (view_of store table) s p x (Some (record { bits = with_line bits line; block = block })) is begins (laid old.store bits line bytes)
+      (laid_page began old.store store block bits line bytes x
+      (record { here = inserts.here; others = λ i has other. inserts.lines i (ap (λ l. has_line l i) set_is ∙ has) ∙ so.lines i (are.inside i has) has })
+      (frames x.entry.frame (so.frames x.entry.frame (is.held s p x there).frame).stays) (so.frames x.entry.frame (is.held s p x there).frame).lines)
+
+  -- and the lines of other pages stay where they stand
+  pub begun_places : KeepsPlacesBut s p old (view_of store table)
+  begun_places = overlays_places old (view_of store table) s p x (Some (record { bits = with_line bits line; block = block })) is begins
 
 -- There is room for another overlay: an overlaid page needs a unit, and the zero frame needs sixteen.
 pub overlay_room : (store : Store) (table : LedgerView) → IsJoined (view_of store table) → overlaid_pages (ledger_of table) < 16 * table.frames

@@ -31,5 +31,6 @@ pub mod GivenLines
 pub mod Rebased
 pub mod Copying
 pub mod OwnPlaces
+pub mod Places
 pub mod Laws
 pub mod Needs

@@ -1,8 +1,8 @@
 use Rattle.overlay_pages.proofs.Common.{option_map, ◌≡◌, ℕ, ◌+◌, ◌^◌, ◌<◌, List, Option, Some, None, length, refl, sym, ap, subst, ◌∙◌, arith, inl, inr, option_and_then, none-some, same_Some, cases_eq}
 use Rattle.overlay_pages.proofs.Stores.{Store, Piece, free_units, units_in, Entry, IsStore, segment_at, KeepsFrames, KeepsOtherSegments, IsFrame}
 use Rattle.overlay_pages.proofs.Books.{Ledger, class, units, units_own, books_page, books_put_page, changed_there, page_set_beside, set_some, there_space, page_in, put_page, set_page, altered_page, LedgerView, PageView, holding_of, ledger_of, lines_of, overlay_at, with_overlay, by_option}
-use Rattle.overlay_pages.proofs.Views.{PageState, IsJoined, IsJoinedWith, MemoryView, page_state, segment_of, state_of, state_page_there}
-use Rattle.overlay_pages.proofs.Steps.{Step, stepped, Segments}
+use Rattle.overlay_pages.proofs.Views.{PageState, IsJoined, IsJoinedWith, KeepsPlacesBut, MemoryView, page_state, segment_of, state_of, state_page_there}
+use Rattle.overlay_pages.proofs.Steps.{Step, places_beside, stepped, Segments}
 
 -- An overlay begins, ends, or gets other lines.
 
@@ -34,41 +34,44 @@ pub record Overlays (P : List Piece → Type 0) (old new : MemoryView) (s p : �
   pub frames : KeepsFrames old.store new.store
   pub free : free_units new.store.blocks + class (length (lines_of o)) ≡ free_units old.store.blocks + class (length (lines_of x.overlay))
 
--- So the view is that of a memory still, in which the page is altered.
-pub overlays : {P : List Piece → Type 0} (old new : MemoryView) (s p : ℕ) (x : PageView) (o : Option Entry) → IsJoined old → Overlays P old new s p x o → (turn : PageState → PageState)
-    → page_state new.store (record { entry = x.entry; overlay = o }) ≡ turn (page_state old.store x) → IsJoinedWith P new × (state_of new ≡ altered_page turn (state_of old) s p)
-unfolding with_overlay set_page
-overlays {P = P} old new s p x o is so turn same = (
-  all.0,
-  all.1 ∙ ap (λ y. put_page (state_of old) s p y) same ∙ sym (changed_there turn (state_of old) s p (page_state old.store x) (state_page_there old s p x so.there)),
-)
-  where
-    y : PageView
-    y = record { entry = x.entry; overlay = o }
+-- That is a step of that page.
+module _ {P : List Piece → Type 0} (old new : MemoryView) (s p : ℕ) (x : PageView) (o : Option Entry) (is : IsJoined old) (so : Overlays P old new s p x o) where
+  abbrev y : PageView
+  y = record { entry = x.entry; overlay = o }
 
-    table_is : new.table ≡ put_page old.table s p y
-    table_is = so.table_is ∙ changed_there (λ (z : PageView). record { entry = z.entry; overlay = o }) old.table s p x so.there
+  table_is : new.table ≡ put_page old.table s p y
+  unfolding with_overlay
+  table_is = so.table_is ∙ changed_there (λ (z : PageView). record { entry = z.entry; overlay = o }) old.table s p x so.there
 
-    units_now : units (ledger_of new.table) + class (length (lines_of x.overlay)) ≡ units (ledger_of old.table) + class (length (lines_of o))
-    units_now =
-        ap (λ (l : Ledger). units l + class (length (lines_of x.overlay))) (ap ledger_of table_is ∙ books_put_page holding_of old.table s p y)
-        ∙ units_own (ledger_of old.table) s p (holding_of old.table.zero_frame x) (holding_of old.table.zero_frame y)
-        (books_page holding_of old.table s p ∙ ap (option_map (holding_of old.table.zero_frame)) so.there) refl
+  units_now : units (ledger_of new.table) + class (length (lines_of x.overlay)) ≡ units (ledger_of old.table) + class (length (lines_of o))
+  units_now =
+      ap (λ (l : Ledger). units l + class (length (lines_of x.overlay))) (ap ledger_of table_is ∙ books_put_page holding_of old.table s p y)
+      ∙ units_own (ledger_of old.table) s p (holding_of old.table.zero_frame x) (holding_of old.table.zero_frame y)
+      (books_page holding_of old.table s p ∙ ap (option_map (holding_of old.table.zero_frame)) so.there) refl
 
-    step : Step P old new s p (Some x) (Some y)
-    step = record {
-      there = there_space old.table s p x so.there;
-      low = (is.held s p x so.there).low;
-      was = so.there;
-      table_is = table_is;
-      segments = so.segments;
-      frames = λ frame f _. so.frames frame f;
-      frame = λ z same. subst (λ (z : PageView). IsFrame new.store z.entry.frame) (same_Some y z same) (so.frames x.entry.frame (is.held s p x so.there).frame).stays;
-      count = omega (arith, is.count, so.segments.whole, so.free, units_now);
-    }
+  step : Step P old new s p (Some x) (Some y)
+  unfolding set_page
+  step = record {
+    there = there_space old.table s p x so.there;
+    low = (is.held s p x so.there).low;
+    was = so.there;
+    table_is = table_is;
+    segments = so.segments;
+    frames = λ frame f _. so.frames frame f;
+    frame = λ z same. subst (λ (z : PageView). IsFrame new.store z.entry.frame) (same_Some y z same) (so.frames x.entry.frame (is.held s p x so.there).frame).stays;
+    count = omega (arith, is.count, so.segments.whole, so.free, units_now);
+  }
 
-    all : IsJoinedWith P new × (state_of new ≡ put_page (state_of old) s p (page_state new.store y))
-    all = stepped old new s p (Some x) (Some y) is step
+  -- So the view is that of a memory still, in which the page is altered.
+  pub overlays : (turn : PageState → PageState) → page_state new.store y ≡ turn (page_state old.store x) → IsJoinedWith P new × (state_of new ≡ altered_page turn (state_of old) s p)
+  unfolding set_page
+  overlays turn same =
+      let all = stepped old new s p (Some x) (Some y) is step in
+      (all.0, all.1 ∙ ap (λ y. put_page (state_of old) s p y) same ∙ sym (changed_there turn (state_of old) s p (page_state old.store x) (state_page_there old s p x so.there)))
+
+  -- The lines of other pages stay where they stand.
+  pub overlays_places : KeepsPlacesBut s p old new
+  overlays_places = places_beside old new s p (Some x) (Some y) is step
 
 -- The overlay of another page stays.
 pub overlay_beside : (turn : PageView → PageView) (v : LedgerView) (s p : ℕ) (x : PageView) → page_in v s p ≡ Some x → (q r : ℕ) → (q ≡ s → r ≡ p → ⊥) → overlay_at (altered_page turn v s p) q r ≡ overlay_at v q r

@@ -7,7 +7,7 @@ use Rattle.overlay_pages.proofs.Joining.{Has, page_with}
 
 -- Where each line of a page stands, and that no other line stands there but those of its frame.
 
-record InOverlay (m : MemoryView) (q r i : ℕ) : Type 0 where
+pub record InOverlay (m : MemoryView) (q r i : ℕ) : Type 0 where
   pub x : PageView
   pub there : page_in m.table q r ≡ Some x
   pub overlay : Entry
@@ -15,7 +15,7 @@ record InOverlay (m : MemoryView) (q r i : ℕ) : Type 0 where
   pub has : has_line overlay.bits i ≡ true
   pub place : place_at m q r i ≡ place_of m.store overlay.block i
 
-record InFrame (m : MemoryView) (q r i : ℕ) : Type 0 where
+pub record InFrame (m : MemoryView) (q r i : ℕ) : Type 0 where
   pub x : PageView
   pub there : page_in m.table q r ≡ Some x
   pub lacks : has_line (lines_of x.overlay) i ≡ false
@@ -24,7 +24,7 @@ record InFrame (m : MemoryView) (q r i : ℕ) : Type 0 where
 placed : (m : MemoryView) (q r i : ℕ) (o : Option Entry) (found : Has m.table q r o) → place_at m q r i ≡ place_in_page m.store found.x i
 placed m q r i o found = ap (λ (f : Option PageView). option_map_or (λ (x : PageView). place_in_page m.store x i) f 0) found.there
 
-stands : (m : MemoryView) (q r i : ℕ) → IsSome (page_in m.table q r) → InOverlay m q r i ⊎ InFrame m q r i
+pub stands : (m : MemoryView) (q r i : ℕ) → IsSome (page_in m.table q r) → InOverlay m q r i ⊎ InFrame m q r i
 stands m q r i there =
     let found = page_with m.table q r there (overlay_at m.table q r) refl in
     let place = placed m q r i (overlay_at m.table q r) found in
@@ -36,7 +36,7 @@ stands m q r i there =
 held_segment : (m : MemoryView) → IsJoined m → (q r i : ℕ) → (o : InOverlay m q r i) → segment_at m.store o.overlay.block.unit ≡ Some (segment_of q r o.overlay)
 held_segment m is q r i o = (is.held q r o.x o.there).segment o.overlay o.over
 
-is_segment : (m : MemoryView) → IsJoined m → (q r i : ℕ) → (o : InOverlay m q r i) → IsSegment m.store o.overlay.block
+pub is_segment : (m : MemoryView) → IsJoined m → (q r i : ℕ) → (o : InOverlay m q r i) → IsSegment m.store o.overlay.block
 is_segment m is q r i o = record { segment = segment_of q r o.overlay; there = held_segment m is q r i o; order = refl }
 
 lies : (m : MemoryView) → IsJoined m → (q r i : ℕ) → (o : InOverlay m q r i) → LiesIn m.store.lines o.overlay.block.unit o.overlay.block.order i

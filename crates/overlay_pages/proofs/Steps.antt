@@ -1,7 +1,7 @@
-use Rattle.overlay_pages.proofs.Common.{cases_eq, none-some, same_Some, ◌≡◌, ℕ, ◌+◌, ◌*◌, ◌^◌, ◌<◌, ◌≤◌, ◌⊎◌, true, false, cond, nat_eq, List, Option, Some, None, length, slice_index_or, slice_set, refl, true≢false, option_and_then, option_map, sym, ap, subst, ◌∙◌, arith, inl, inr, FRAME_UNITS, LAST_SPACE, PAGE_END, Bool}
+use Rattle.overlay_pages.proofs.Common.{cases_eq, none-some, same_Some, ◌≡◌, ℕ, ◌+◌, ◌*◌, ◌^◌, ◌<◌, ◌≤◌, ◌⊎◌, true, false, cond, nat_eq, List, Option, Some, None, length, slice_index_or, slice_set, refl, true≢false, is_some, option_and_then, option_map, option_map_or, sym, ap, subst, ◌∙◌, arith, inl, inr, FRAME_UNITS, LAST_SPACE, PAGE_END, Bool}
 use Rattle.overlay_pages.proofs.Stores.{Block, AreSettled, IsPiece, Piece, free_units, taken_at, units_in, has_line, overlay_page, same_page, same_space, Entry, line_of, Segment, IsStore, Store, IsFrame, IsSegment, frame_line, frame_place, line_in, lines_at, place_of, segment_at, KeepsFrame, KeepsSegment, KeepsSegments, block_of, lines_there, composed_line, scratch_line}
 use Rattle.overlay_pages.proofs.Books.{by_test, alone_apart, are, arent, Holding, is_alone, books_there, by_place, class, units, map_alike, by_option, KeepsSpaces, keeps_page_set, page_again, page_set_beside, page_set_here, set_some, spaces_alike, there_space, holds_space, page_in, put_page, set_page, LedgerView, PageView, holding_of, ledger_of, lines_of, origin_of}
-use Rattle.overlay_pages.proofs.Views.{lines_same, set_line, page_lines, PageState, IsHeld, IsJoined, IsJoinedWith, IsOwned, MemoryView, line_seen, page_state, place_in_page, segment_of, state_of, view_of, state_awaiting, state_frames, state_holds, state_mark, state_page, state_zero}
+use Rattle.overlay_pages.proofs.Views.{lines_same, set_line, page_lines, PageState, IsHeld, IsJoined, IsJoinedWith, IsOwned, KeepsPlacesBut, MemoryView, line_seen, page_state, place_in_page, segment_of, state_of, view_of, state_awaiting, state_frames, state_holds, state_mark, state_page, state_zero}
 
 -- A line of a page: it stands in the segment of the overlay that has it, or in the frame.
 pub by_spot : {P : Type 0} (x : PageView) (i : ℕ) → ((e : Entry) → x.overlay ≡ Some e → has_line e.bits i ≡ true → P) → (has_line (lines_of x.overlay) i ≡ false → P) → P
@@ -70,6 +70,13 @@ pub seen_line_kept : (old new : Store) (q r : ℕ) (y : PageView) → IsHeld old
 seen_line_kept old new q r y held frame segment line low = by_spot y line
     (λ e over has. seen_inside new y e line over has ∙ (segment e over).lines line (ap (λ l. has_line l line) (overlay_lines old q r y e held over) ∙ has) ∙ sym (seen_inside old y e line over has))
     (λ lacks. seen_outside new y line lacks ∙ frame.lines line low ∙ sym (seen_outside old y line lacks))
+
+-- and stands where it stood
+pub place_kept : (old new : Store) (q r : ℕ) (y : PageView) → IsHeld old q r y → ((e : Entry) → y.overlay ≡ Some e → KeepsSegment old new e.block) → (line : ℕ)
+    → place_in_page new y line ≡ place_in_page old y line
+place_kept old new q r y held segment line = by_spot y line
+    (λ e over has. place_inside new y e line over has ∙ (segment e over).places line (ap (λ l. has_line l line) (overlay_lines old q r y e held over) ∙ has) ∙ sym (place_inside old y e line over has))
+    (λ lacks. place_outside new y line lacks ∙ sym (place_outside old y line lacks))
 
 -- so the page is
 pub page_kept : (old new : Store) (q r : ℕ) (y : PageView) → IsHeld old q r y → KeepsFrame old new y.entry.frame
@@ -281,6 +288,14 @@ module _ {P : List Piece → Type 0} (old new : MemoryView) (s p : ℕ) (a b : O
       ∙ map_alike (page_state new.store) (page_state old.store) (page_in old.table q r)
       (λ y e. page_kept old.store new.store q r y (is.held q r y e) (frame_kept q r y d e) (λ o over. segment_kept q r y o d e over))
       ∙ sym (state_page old q r)
+
+  -- where lines of other pages stand
+  pub places_beside : KeepsPlacesBut s p old new
+  places_beside q r i d some _ = by_option (page_in old.table q r)
+      (λ none. absurd (true≢false (sym some ∙ ap is_some none)))
+      (λ y e. ap (λ (o : Option PageView). option_map_or (λ (x : PageView). place_in_page new.store x i) o 0) (step_beside q r d ∙ e)
+      ∙ place_kept old.store new.store q r y (is.held q r y e) (λ o over. segment_kept q r y o d e over) i
+      ∙ sym (ap (λ (o : Option PageView). option_map_or (λ (x : PageView). place_in_page old.store x i) o 0) e))
 
   pub stepped : IsJoinedWith P new × (state_of new ≡ set_page (state_of old) s p (option_map (page_state new.store) b))
   stepped = (

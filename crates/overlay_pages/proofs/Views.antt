@@ -6,7 +6,7 @@ pub use Rattle.overlay_pages.specs.LineLaws.{line_at, lines_same, set_line}
 pub use Rattle.overlay_pages.specs.Lines.{line_in_page, page_lines}
 unfoldable pub use Rattle.overlay_pages.specs.Lines.{bytes_of_line, lines_of_bytes, zero_line, zero_page}
 pub use Rattle.overlay_pages.specs.SpotLaws.{found_at}
-pub use Rattle.overlay_pages.specs.Spots.{IsBroughtTo, IsFound, IsFoundAt, IsFoundPage, IsFoundPageAt, IsInFrame, IsInSegment, IsSpot}
+pub use Rattle.overlay_pages.specs.Spots.{IsBroughtTo, IsFound, IsFoundAt, IsFoundPage, IsFoundPageAt, IsInFrame, IsInSegment, IsPlace, IsPutPlace, IsSpot, KeepsPlaces, KeepsPlacesBut}
 pub use Rattle.overlay_pages.specs.State.{PageState, SpaceState, State, books, held_page}
 pub use Rattle.overlay_pages.specs.Steps.{AreKept, FollowsAll, FollowsAt, IsAhead, IsBehind, IsLaid, IsOfPage, KeepsOtherOverlays, Moved, MovesFew, PutsLine, Tells, by_rank, given_page, joins, laid, laid_line, relocated}
 unfoldable pub use Rattle.overlay_pages.specs.Steps.{went_overlay, went_page}

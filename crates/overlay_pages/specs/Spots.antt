@@ -1,4 +1,4 @@
-use Rattle.std.specs.Prelude.{◌≡◌, ℕ, ◌<◌, ◌&&◌, not, true, false, [], Option, Some, None}
+use Rattle.std.specs.Prelude.{◌≡◌, ℕ, ◌<◌, ◌&&◌, not, true, false, [], Option, Some, None, IsSome}
 use Rattle.std.specs.Option.{option_map}
 use Rattle.sizes.specs.declared.TheConstants.{PAGE_LINES}
 use Rattle.unit_map.specs.declared.block.Block.{Block}
@@ -7,7 +7,8 @@ use Rattle.overlay_mapping_table.specs.declared.entry.Entry.{Entry}
 use Rattle.ledger.specs.Ledger.{is_alone}
 use Rattle.space_maps.specs.Spaces.{page_in, space_in}
 use Rattle.space_ledger.specs.View.{LedgerView, PageView, ledger_of, lines_of}
-use Rattle.overlay_pages.specs.View.{MemoryView, state_of}
+use Rattle.overlay_pages.specs.Changes.{is_writable}
+use Rattle.overlay_pages.specs.View.{MemoryView, place_at, state_of}
 use Rattle.overlay_pages.specs.declared.spots.FoundLine.{FoundLine}
 use Rattle.overlay_pages.specs.declared.spots.FoundPage.{FoundPage}
 use Rattle.overlay_pages.specs.declared.spots.Spot.{Spot}
@@ -87,3 +88,24 @@ pub record IsFoundPageAt (view : MemoryView) (space page : ℕ) (found : FoundPa
 abbrev pub FindsPage : MemoryView → ℕ → ℕ → Option FoundPage → Type 0
 FindsPage view space page None = page_in (state_of view) space page ≡ None
 FindsPage view space page (Some found) = IsFoundPageAt view space page found
+
+-- A line of a page that is there stands at a place of the region, and can be written there.
+pub record IsPlace (view : MemoryView) (at : ℕ) : Type 0 where
+  pub space : ℕ
+  pub page : ℕ
+  pub line : ℕ
+  pub there : IsSome (page_in view.table space page)
+  pub low : line < PAGE_LINES
+  pub at_is : place_at view space page line ≡ at
+
+pub record IsPutPlace (view : MemoryView) (at : ℕ) : Type 0 where
+  pub is : IsPlace view at
+  pub writable : is_writable (state_of view) is.space is.page is.line ≡ true
+
+-- each line of each page that is there stays where it stands, or each one of every page but one does
+abbrev pub KeepsPlaces : MemoryView → MemoryView → Type 0
+KeepsPlaces old new = (q r i : ℕ) → IsSome (page_in old.table q r) → i < PAGE_LINES → place_at new q r i ≡ place_at old q r i
+
+abbrev pub KeepsPlacesBut : ℕ → ℕ → MemoryView → MemoryView → Type 0
+KeepsPlacesBut space page old new = (q r i : ℕ) → (q ≡ space → r ≡ page → ⊥) → IsSome (page_in old.table q r) → i < PAGE_LINES
+    → place_at new q r i ≡ place_at old q r i

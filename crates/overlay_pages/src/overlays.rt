@@ -14,7 +14,7 @@ ghost use Rattle.space_maps.specs.Spaces.{page_in, altered_page};
 ghost use Rattle.space_ledger.specs.View.{frame_at, lines_of, overlay_at};
 ghost use Rattle.overlay_pages.specs.Changes.{Fits, brought, discarded, is_writable, limit_of, units_of, with_brought};
 ghost use Rattle.overlay_pages.specs.Calls.{MovesFewBeside};
-ghost use Rattle.overlay_pages.specs.Spots.{IsBroughtTo, IsFoundPage};
+ghost use Rattle.overlay_pages.specs.Spots.{IsBroughtTo, IsFoundPage, KeepsPlacesBut};
 ghost use Rattle.overlay_pages.specs.View.{IsJoined, state_of, view_of};
 ghost use Rattle.overlay_pages.specs.Steps.{HasJoined, joins, laid};
 
@@ -150,6 +150,8 @@ fn begin_overlay(
         ≡ altered_page (laid store.old bits line bytes.now)
         (state_of (view_of store.old ledger.old)) space page }
     ensures table { HasJoined ledger.old ledger.new space page bits line result }
+    ensures places { KeepsPlacesBut space page
+        (view_of store.old ledger.old) (view_of store.new ledger.new) }
 {
     let block = store.begin_segment(OverlayPage::of(space, page), order);
     store.lay(block, bits);
@@ -180,6 +182,8 @@ fn insert_line(
     ensures state { state_of (view_of store.new ledger.new)
         ≡ altered_page (joins line bytes.now) (state_of (view_of store.old ledger.old)) space page }
     ensures table { HasJoined ledger.old ledger.new space page entry.bits line result }
+    ensures places { KeepsPlacesBut space page
+        (view_of store.old ledger.old) (view_of store.new ledger.new) }
 {
     store.insert(entry.block, line, bytes);
     let bits = entry.bits.with(line);
@@ -236,6 +240,8 @@ fn begin_with(
     ensures state { state_of (view_of store.new ledger.new)
         ≡ altered_page (joins line bytes.now) (state_of (view_of store.old ledger.old)) space page }
     ensures table { HasJoined ledger.old ledger.new space page [] line result }
+    ensures places { KeepsPlacesBut space page
+        (view_of store.old ledger.old) (view_of store.new ledger.new) }
 {
     begin_overlay(store, ledger, space, page, 0, Bits::empty(), line, bytes)
 }
@@ -263,6 +269,8 @@ fn join(
     ensures state { state_of (view_of store.new ledger.new)
         ≡ altered_page (joins line bytes.now) (state_of (view_of store.old ledger.old)) space page }
     ensures stays { IfSome result (HasJoined ledger.old ledger.new space page (lines_of overlay) line) }
+    ensures places { IfSome result (λ _. KeepsPlacesBut space page
+        (view_of store.old ledger.old) (view_of store.new ledger.new)) }
 {
     match overlay {
         Some(entry) => {
@@ -311,6 +319,8 @@ fn bring_line(
     ensures state { state_of (view_of store.new ledger.new)
         ≡ altered_page (brought (line ∷ [])) (state_of (view_of store.old ledger.old)) space page }
     ensures stays { IfSome result (HasJoined ledger.old ledger.new space page (lines_of overlay) line) }
+    ensures places { IfSome result (λ _. KeepsPlacesBut space page
+        (view_of store.old ledger.old) (view_of store.new ledger.new)) }
 {
     if has_own(&overlay, line) {
         return None;
@@ -338,6 +348,8 @@ pub(crate) fn bring_found(
     ensures state { state_of (view_of store.new ledger.new)
         ≡ with_brought (state_of (view_of store.old ledger.old)) page.space page.page (line ∷ []) }
     ensures found { IfSome result (IsBroughtTo ledger.old ledger.new page line) }
+    ensures places { IfSome result (λ _. KeepsPlacesBut page.space page.page
+        (view_of store.old ledger.old) (view_of store.new ledger.new)) }
 {
     let space = page.space;
     let number = page.page;

@@ -18,7 +18,7 @@ ghost use Rattle.overlay_pages.specs.Lines.{line_in_page, lines_of_bytes};
 ghost use Rattle.overlay_pages.specs.State.{PageState, base_of, books, memory_of};
 ghost use Rattle.overlay_pages.specs.Changes.{AreAbsent, Fits, HasCopyRoom, HasShareRoom, IsAway, IsPlaced, IsRebased, SeesFrame, brought, committed, copied, discarded, frame_but_zero, is_writable, limit_of, units_of, whole_page, with_brought, with_shared, with_written, with_zeros};
 ghost use Rattle.overlay_pages.specs.View.{HasOwnPlace, IsJoined, place_at, state_of};
-ghost use Rattle.overlay_pages.specs.Spots.{FindsLine, FindsPage, IsBroughtTo, IsFound, IsFoundPage, IsFoundPageAt};
+ghost use Rattle.overlay_pages.specs.Spots.{FindsLine, FindsPage, IsBroughtTo, IsFound, IsFoundPage, IsFoundPageAt, IsPlace, IsPutPlace, KeepsPlaces, KeepsPlacesBut};
 ghost use Rattle.overlay_pages.specs.Calls.{AreMapped, AreShared, AreZeros, AwaitBare, AwaitsLike, HasSettledBlocks, IsEmptyState, IsNextPage, KeepsWholeBlocks, MovesFewBeside, NoneAwaitsBelow, RisesBy, entries_in, with_line_at_place};
 ghost use Rattle.overlay_pages.specs.declared.settling.TheConstants.{MOST_OWN};
 ghost use Rattle.overlay_pages.specs.contracts.pages.OverlayPages.{the_row};
@@ -437,12 +437,57 @@ impl OverlayPages {
         ensures state { (bytes : List ℕ) → state_of (with_line_at_place self.old
             (place_at self.old found.space found.page found.line) bytes)
             ≡ with_written (state_of self.old) found.space found.page found.line bytes }
+        ensures places { (bytes : List ℕ) → KeepsPlaces self.old (with_line_at_place self.old
+            (place_at self.old found.space found.page found.line) bytes) }
         ensures joined { IsJoined self.old }
     {
         match found.spot {
             Spot::Segment(block) => self.store.get_mut(block, found.line),
             Spot::Frame(frame) => self.store.frame_line_mut(frame, found.line),
         }
+    }
+
+    /// Where a line that was found stands: the number of its line in the region. Costs a step.
+    pub fn place_of(&self, found: FoundLine) -> u32
+        requires found { IsFound self.now found }
+        ensures place { result ≡ place_at self.now found.space found.page found.line }
+        ensures few { result < PAGE_LINES * MOST_FRAMES }
+        ensures joined { IsJoined self.now }
+    {
+        match found.spot {
+            Spot::Segment(block) => self.store.place(block, found.line),
+            Spot::Frame(frame) => 64 * frame + u32::from(found.line),
+        }
+    }
+
+    /// Lends the line at a place of the region, at which one of a page that is there stands. Costs a step.
+    #[inline]
+    pub fn line_at_place(&self, at: u32) -> &[u8; 64]
+        requires place { IsPlace self.now at }
+        ensures value { (is : IsPlace self.now at) → option_map (λ x. line_in_page x.lines is.line)
+            (page_in (state_of self.now) is.space is.page) ≡ Some result.now }
+        ensures bytes { length result.now ≡ LINE_BYTES }
+        ensures joined { IsJoined self.now }
+    {
+        self.store.line(at)
+    }
+
+    /// Lends the line at a place of the region, at which one of a page that is there stands, and can be written. What the borrower leaves
+    /// is the region's line there, and nothing else of the region or of the tables changes: every line stays where it stands. Costs a step.
+    #[inline]
+    pub fn line_at_place_mut(&mut self, at: u32) -> &mut [u8; 64]
+        requires place { IsPutPlace self.old at }
+        ensures* writes_back { sem 𝓛 (Lends the_row (Array byte 0) self.entry result
+            (with_line_at_place self.old at)) }
+        ensures value { (is : IsPutPlace self.old at) → option_map (λ x. line_in_page x.lines is.is.line)
+            (page_in (state_of self.old) is.is.space is.is.page) ≡ Some result.now }
+        ensures state { (is : IsPutPlace self.old at) (bytes : List ℕ)
+            → state_of (with_line_at_place self.old at bytes)
+            ≡ with_written (state_of self.old) is.is.space is.is.page is.is.line bytes }
+        ensures places { (bytes : List ℕ) → KeepsPlaces self.old (with_line_at_place self.old at bytes) }
+        ensures joined { IsJoined self.old }
+    {
+        self.store.line_mut(at)
     }
 
     /// Where a line of a page that is there stands: the number of its line in the region. Costs a look-up.
@@ -455,10 +500,7 @@ impl OverlayPages {
         ensures joined { IsJoined self.now }
     {
         match self.find(space, page, line) {
-            Some(found) => match found.spot {
-                Spot::Segment(block) => self.store.place(block, line),
-                Spot::Frame(frame) => 64 * frame + u32::from(line),
-            },
+            Some(found) => self.place_of(found),
             None => unreachable!(),
         }
     }
@@ -518,8 +560,8 @@ impl OverlayPages {
     }
 
     /// Brings a line, below 64, of a page that was found, as `bring` does: one that can't be written where it stands. The units that this
-    /// needs are there. Answers the page as it is found then, and all other pages are found as before; or none where the overlay grew, so
-    /// that others may have moved. Takes no memory. Costs an insertion and a copy of the line, and what `bring` costs where the overlay
+    /// needs are there. Answers the page as it is found then, and all other pages are found as before, their lines where they were; or none
+    /// where the overlay grew, so that others may have moved. Takes no memory. Costs an insertion and a copy of the line, and what `bring` costs where the overlay
     /// grows.
     #[inline(always)]
     pub fn bring_found(&mut self, page: FoundPage, line: u8) -> Option<FoundPage>
@@ -529,6 +571,7 @@ impl OverlayPages {
         requires fits { Fits (with_brought (state_of self.old) page.space page.page (line ∷ [])) }
         ensures state { state_of self.new ≡ with_brought (state_of self.old) page.space page.page (line ∷ []) }
         ensures found { IfSome result (IsBroughtTo self.old.table self.new.table page line) }
+        ensures places { IfSome result (λ _. KeepsPlacesBut page.space page.page self.old self.new) }
         ensures joined { IsJoined self.old }
     {
         bring_found(&mut self.store, &mut self.ledger, page, line)
