@@ -2,6 +2,7 @@ pub mod Overwritten
 pub mod LineBytes
 pub mod Views
 pub mod Pieced
+pub mod Placing
 pub mod ReadSoFar
 pub mod Filling
 pub mod Bringing

@@ -6,10 +6,11 @@
 //! their entries hold.
 //!
 //! - `comparing`: pages that are compared line by line
-//! - `epochs`: pages that were found before, and are forgotten in one step
+//! - `epochs`: pages that were found before with the places of their lines, forgotten in one step
 //! - `error`: why a call isn't done
-//! - `fronts`: pages at the front of their lists of translations
+//! - `fronts`: what is known of pages, and of those at the front of their lists of translations
 //! - `memory`: the public type
+//! - `places`: where lines of pages at the front of their lists are read and written
 //! - `reading`: bytes out of the lines of pages
 //! - `removing`: pages that are taken away
 //! - `room`: whether there are as many units as a change needs
@@ -23,6 +24,7 @@ mod epochs;
 mod error;
 mod fronts;
 mod memory;
+mod places;
 mod reading;
 mod removing;
 mod room;
@@ -33,5 +35,4 @@ mod translating;
 pub use error::{MemoryError, Shortage, SpaceError};
 pub use memory::OverlayMemory;
 pub use overlay_pages::{FoundPage, LARGE_LINES, MOST_OWN};
-pub use reading::is_in_line;
 pub use space_ledger::class_of;

@@ -7,7 +7,7 @@ ghost use Rattle.std.specs.Option.{is_some, option_map};
 ghost use Rattle.sizes.specs.declared.TheConstants.{LAST_SPACE, LINE_BYTES, MOST_FRAMES, MOST_SPACE_PAGES, MOST_UNITS, PAGE_BYTES, PAGE_END, PAGE_LINES};
 ghost use Rattle.ovl_io.specs.Memory.{bytes_at};
 ghost use Rattle.ovl_io.specs.PageBytes.{page_allows};
-ghost use Rattle.ovl_io.specs.Permissions.{writable};
+ghost use Rattle.ovl_io.specs.Permissions.{readable, writable};
 ghost use Rattle.ledger.specs.Ledger.{is_alone};
 ghost use Rattle.ledger.specs.LargeLaws.{NoneLarge};
 ghost use Rattle.ledger.specs.Units.{own_lines};
@@ -39,11 +39,11 @@ ghost use Rattle.overlay_memory.specs.contracts.memory.OverlayMemory.{the_row};
 use crate::comparing::lines_apart;
 use crate::error::{MemoryError, Shortage, SpaceError, result_at};
 use crate::fronts::Fronts;
-use crate::reading::{is_in_line, line_of, load_line, read_bytes};
+use crate::reading::{is_in_line, line_of, load_front, load_line, read_bytes};
 use crate::removing::{remove_pages, unmap_pages};
 use crate::room::{shortage_by, shortage_of};
 use crate::storing::{put_line, store_front, store_line, write_pages};
-use crate::translating::{bring_found, translate_access};
+use crate::translating::{bring_seen, translate_access};
 use bitflags::Flags;
 use overlay_bits::Bits;
 use overlay_pages::{FoundPage, MOST_OWN, OverlayPages};
@@ -326,9 +326,9 @@ impl OverlayMemory {
         ensures { IfSome result (λ line. IsFrontLine self.now space need.0 address line.now) }
     {
         match self.fronts.page(space, address / PAGE_BYTES as u64) {
-            Some(page) => {
-                if page.perms.contains(need) {
-                    Some(self.pages.line_at(page.line(line_of(address))))
+            Some(known) => {
+                if known.found.perms.contains(need) {
+                    Some(self.pages.line_at(known.found.line(line_of(address))))
                 } else {
                     None
                 }
@@ -352,11 +352,11 @@ impl OverlayMemory {
     {
         match self.fronts.seen(space, address / PAGE_BYTES as u64) {
             Some(known) => {
-                let found = *known;
+                let found = known.found;
                 if !found.perms.contains(need) {
                     return false;
                 }
-                bring_found(&self.pages, &mut self.cache, &mut self.fronts, &found);
+                bring_seen(&self.pages, &mut self.cache, &mut self.fronts, &found);
                 true
             }
             None => false,
@@ -372,13 +372,32 @@ impl OverlayMemory {
         self.cache.count_hits(n);
     }
 
-    /// Counts one access to a page that is at the front of its list.
+    /// As `load` of bytes in one line that need R, where its page is known to be at the front of its list. Answers whether it was done; where
+    /// not, nothing has changed. Costs a few steps.
     #[inline(always)]
-    pub fn count_front(&mut self)
+    pub fn load_front(&mut self, space: u16, address: u64, into: &mut [u8]) -> bool
+        requires some { 0 < length into.old }
+        requires one_line { address % LINE_BYTES + length into.old ≤ LINE_BYTES }
+        ensures access { result ≡ true
+            → Reads (state_of self.old) space readable address (length into.old) (Ok tt) }
+        ensures bytes { result ≡ true
+            → into.new ≡ bytes_at (memory_of (state_of self.old) space) address (length into.old) }
+        ensures kept { length into.new ≡ length into.old }
         ensures same { self.new.pages ≡ self.old.pages }
-        ensures translations { translations_of self.new ≡ with_hits 1 (translations_of self.old) }
+        ensures front { result ≡ true
+            → IsFront space (address / PAGE_BYTES) (translations_of self.old) }
+        ensures translations { result ≡ true
+            → translations_of self.new ≡ with_hits 1 (translations_of self.old) }
+        ensures unmoved { result ≡ false → self.new ≡ self.old }
     {
-        self.cache.count_hit();
+        load_front(
+            &self.pages,
+            &mut self.cache,
+            &mut self.fronts,
+            space,
+            address,
+            into,
+        )
     }
 
     /// As `store`, of bytes in one line, where that can be written where it stands and its page is known to be at the front of its list.
@@ -399,7 +418,7 @@ impl OverlayMemory {
         store_front(
             &mut self.pages,
             &mut self.cache,
-            &self.fronts,
+            &mut self.fronts,
             space,
             address,
             bytes,

@@ -1,8 +1,9 @@
 //! Bytes out of the lines of pages.
 
-ghost use Rattle.std.specs.Prelude.{◌≡◌, ◌+◌, ◌/◌, ◌%◌, ◌<◌, ◌≤◌, length, OnOk, true};
+ghost use Rattle.std.specs.Prelude.{◌≡◌, ◌+◌, ◌/◌, ◌%◌, ◌<◌, ◌≤◌, length, Ok, OnOk, true, false};
 ghost use Rattle.sizes.specs.declared.TheConstants.{ADDRESS_END, LINE_BYTES, PAGE_BYTES, PAGE_LINES};
 ghost use Rattle.ovl_io.specs.Memory.{bytes_at};
+ghost use Rattle.ovl_io.specs.Permissions.{readable};
 ghost use Rattle.overlay_pages.specs.State.{memory_of};
 ghost use Rattle.overlay_pages.specs.View.{IsJoined, state_of};
 ghost use Rattle.overlay_memory.specs.Access.{FindsIn, IsFoundIn, Reads};
@@ -11,9 +12,13 @@ ghost use Rattle.overlay_memory.specs.Pieces.{Finds, Permits, result_at};
 ghost use Rattle.overlay_memory.specs.View.{AreTrue};
 ghost use Rattle.translation_cache.specs.Bare.{bare};
 ghost use Rattle.translation_cache.specs.Counted.{translated};
+ghost use Rattle.translation_cache.specs.CountedLaws.{IsFront};
+ghost use Rattle.translation_cache.specs.Translations.{with_hits};
 
+use crate::epochs::NO_PLACE;
 use crate::error::{Came, MemoryError, result_at};
 use crate::fronts::Fronts;
+use crate::places::read_place;
 use crate::translating::translate_anew;
 use bitflags::Flags;
 use overlay_pages::{FoundLine, OverlayPages};
@@ -32,7 +37,7 @@ pub(crate) fn line_of(address: u64) -> u8
 
 /// Whether some bytes from an address on all lie in one line.
 #[inline(always)]
-pub fn is_in_line(address: u64, count: usize) -> bool
+pub(crate) fn is_in_line(address: u64, count: usize) -> bool
     ensures { result ≡ true → (0 < count) × (address % LINE_BYTES + count ≤ LINE_BYTES) }
 {
     0 < count && count <= LINE_BYTES - (address % LINE_BYTES as u64) as usize
@@ -237,10 +242,52 @@ pub(crate) fn load_line(
     ensures fronts { AreFronts pages.now (bare cache.new) fronts.new }
 {
     match fronts.page(space, address / PAGE_BYTES as u64) {
-        Some(page) => {
+        Some(known) => {
             cache.count_hit();
-            read_found(pages, page.line(line_of(address)), address, into, need)
+            read_found(
+                pages,
+                known.found.line(line_of(address)),
+                address,
+                into,
+                need,
+            )
         }
         None => load_anew(pages, cache, fronts, space, address, into, need),
     }
+}
+
+/// As `load_front` of `OverlayMemory`.
+#[inline(always)]
+pub(crate) fn load_front(
+    pages: &OverlayPages,
+    cache: &mut Cache,
+    fronts: &mut Fronts,
+    space: u16,
+    address: u64,
+    into: &mut [u8],
+) -> bool
+    requires some { 0 < length into.old }
+    requires one_line { address % LINE_BYTES + length into.old ≤ LINE_BYTES }
+    requires held { AreTrue (state_of pages.now) cache.old }
+    requires fronts { AreFronts pages.now (bare cache.old) fronts.old }
+    ensures access { result ≡ true
+        → Reads (state_of pages.now) space readable address (length into.old) (Ok tt) }
+    ensures bytes { result ≡ true
+        → into.new ≡ bytes_at (memory_of (state_of pages.now) space) address (length into.old) }
+    ensures kept { length into.new ≡ length into.old }
+    ensures front { result ≡ true → IsFront space (address / PAGE_BYTES) (bare cache.old) }
+    ensures hits { result ≡ true → bare cache.new ≡ with_hits 1 (bare cache.old) }
+    ensures unmoved { result ≡ false → cache.new ≡ cache.old }
+    ensures held { AreTrue (state_of pages.now) cache.new }
+    ensures fronts { AreFronts pages.now (bare cache.new) fronts.new }
+{
+    let place = read_place(pages, fronts, space, address);
+    if place == NO_PLACE {
+        return false;
+    }
+    let at = (address % LINE_BYTES as u64) as usize;
+    let line = pages.line_at_place(place);
+    into.copy_from_slice(&line[at..at + into.len()]);
+    cache.count_hit();
+    true
 }

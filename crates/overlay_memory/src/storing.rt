@@ -6,7 +6,7 @@ ghost use Rattle.ovl_io.specs.Permissions.{permits, writable};
 ghost use Rattle.overlay_pages.specs.Changes.{is_writable};
 ghost use Rattle.overlay_pages.specs.State.{memory_of};
 ghost use Rattle.overlay_pages.specs.View.{IsJoined, state_of};
-ghost use Rattle.overlay_pages.specs.Spots.{IsBroughtTo, IsFound, IsFoundPage, IsFoundPageAt};
+ghost use Rattle.overlay_pages.specs.Spots.{IsBroughtTo, IsFound, IsFoundPage, IsFoundPageAt, KeepsPlaces, KeepsPlacesBut};
 ghost use Rattle.overlay_memory.specs.Access.{FitsStored, IsStored, Stores, line_address};
 ghost use Rattle.overlay_memory.specs.Fronts.{AreFronts};
 ghost use Rattle.overlay_memory.specs.Pieces.{AreWritable, IsFilled, Permits, lines_under, result_at};
@@ -19,8 +19,10 @@ ghost use Rattle.translation_cache.specs.CountedLaws.{IsFront};
 ghost use Rattle.translation_cache.specs.Translations.{Translations, with_hits};
 ghost use Rattle.translation_cache.specs.declared.cached.Cached.{Cached};
 
+use crate::epochs::NO_PLACE;
 use crate::error::{Came, MemoryError, came_of};
 use crate::fronts::Fronts;
+use crate::places::write_place;
 use crate::reading::{line_of, permit};
 use crate::room::{shortage_by, shortage_of};
 use crate::settling::{comes_to_be_large, settle, settle_if_large, stays_overlay};
@@ -61,6 +63,7 @@ fn put(pages: &mut OverlayPages, found: FoundLine, at: usize, bytes: &[u8])
     ensures filled { IsFilled (state_of pages.old) (state_of pages.new) found.space
         (PAGE_BYTES * found.page + (LINE_BYTES * found.line + at)) bytes.now }
     ensures table { pages.new.table ≡ pages.old.table }
+    ensures places { KeepsPlaces pages.old pages.new }
     ensures joined { IsJoined pages.old }
 {
     pages.line_at_mut(found)[at..at + bytes.len()].copy_from_slice(bytes);
@@ -115,6 +118,7 @@ fn put_where_it_stands(
     ensures entries { (t : Translations Cached) → AreTrue (state_of pages.old) t
         → AreTrue (state_of pages.new) t }
     ensures table { pages.new.table ≡ pages.old.table }
+    ensures places { KeepsPlaces pages.old pages.new }
     ensures joined { result ≡ true → IsJoined pages.old }
     ensures kept { result ≡ false → pages.new ≡ pages.old }
     ensures apart { result ≡ false → is_writable (state_of pages.old) page.now.space page.now.page
@@ -246,6 +250,7 @@ fn put_brought(
     ensures stored { IsStored (state_of pages.old) (state_of pages.new) space address bytes.now }
     ensures found { IfSome result (IsBroughtTo pages.old.table pages.new.table page
         (address / LINE_BYTES % PAGE_LINES)) }
+    ensures places { IfSome result (λ _. KeepsPlacesBut page.space page.page pages.old pages.new) }
     ensures held { AreTrue (state_of pages.new) cache.new }
     ensures lists { bare cache.new ≡ bare cache.old }
 {
@@ -462,11 +467,11 @@ fn store_brought(
         fronts.clear();
         let lines = lines_at((address % PAGE_BYTES as u64) as usize, bytes.len());
         let settled = put_in_found(pages, cache, space, &page, address, lines, bytes);
-        fronts.put(space, number, Some(&settled));
+        fronts.put(space, number, settled);
         return Came::Done;
     }
     match &put_brought(pages, cache, space, page, address, bytes) {
-        Some(found) => fronts.put(space, number, Some(found)),
+        Some(found) => fronts.put(space, number, *found),
         None => fronts.clear(),
     }
     Came::Done
@@ -495,8 +500,8 @@ fn store_apart(
     ensures fronts { AreFronts pages.new (bare cache.new) fronts.new }
 {
     match fronts.page(space, address / PAGE_BYTES as u64) {
-        Some(page) => {
-            let page = *page;
+        Some(known) => {
+            let page = known.found;
             if !page.perms.contains(Perms::W) {
                 return Came::Forbidden;
             }
@@ -515,7 +520,7 @@ fn store_apart(
 pub(crate) fn store_front(
     pages: &mut OverlayPages,
     cache: &mut Cache,
-    fronts: &Fronts,
+    fronts: &mut Fronts,
     space: u16,
     address: u64,
     bytes: &[u8],
@@ -523,27 +528,23 @@ pub(crate) fn store_front(
     requires some { 0 < length bytes.now }
     requires one_line { address % LINE_BYTES + length bytes.now ≤ LINE_BYTES }
     requires held { AreTrue (state_of pages.old) cache.old }
-    requires fronts { AreFronts pages.old (bare cache.old) fronts.now }
+    requires fronts { AreFronts pages.old (bare cache.old) fronts.old }
     requires small { AreOverlaysSmall (state_of pages.old) }
     ensures stores { result ≡ true → Stores pages.old pages.new space address bytes.now (Ok tt) }
     ensures front { result ≡ true → IsFront space (address / PAGE_BYTES) (bare cache.old) }
     ensures hits { result ≡ true → bare cache.new ≡ with_hits 1 (bare cache.old) }
     ensures kept { result ≡ false → (pages.new ≡ pages.old) × (cache.new ≡ cache.old) }
     ensures held { AreTrue (state_of pages.new) cache.new }
-    ensures fronts { AreFronts pages.new (bare cache.new) fronts.now }
+    ensures fronts { AreFronts pages.new (bare cache.new) fronts.new }
 {
-    match fronts.page(space, address / PAGE_BYTES as u64) {
-        Some(page) => {
-            if page.perms.contains(Perms::W)
-                && put_where_it_stands(pages, space, page, address, bytes)
-            {
-                cache.count_hit();
-                return true;
-            }
-            false
-        }
-        None => false,
+    let place = write_place(pages, fronts, space, address);
+    if place == NO_PLACE {
+        return false;
     }
+    let at = (address % LINE_BYTES as u64) as usize;
+    pages.line_at_place_mut(place)[at..at + bytes.len()].copy_from_slice(bytes);
+    cache.count_hit();
+    true
 }
 
 /// Stores bytes, some and all in one line of a page that was found. Where that can be written it takes no units.
@@ -626,8 +627,8 @@ pub(crate) fn store_line(
     ensures fronts { AreFronts pages.new (bare cache.new) fronts.new }
 {
     match fronts.page(space, address / PAGE_BYTES as u64) {
-        Some(page) => {
-            let page = *page;
+        Some(known) => {
+            let page = known.found;
             cache.count_hit();
             store_found(pages, cache, fronts, space, page, address, bytes)
         }

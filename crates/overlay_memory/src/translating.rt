@@ -7,11 +7,12 @@ ghost use Rattle.ovl_io.specs.PageBytes.{page_allows};
 ghost use Rattle.overlay_bits.specs.Lines.{AreLines};
 ghost use Rattle.overlay_pages.specs.Changes.{Fits, is_writable, with_brought, writes_frame};
 ghost use Rattle.overlay_pages.specs.State.{memory_of};
-ghost use Rattle.overlay_pages.specs.Spots.{FindsPage, IsBroughtTo, IsFoundPage};
+ghost use Rattle.overlay_pages.specs.Spots.{FindsPage, IsBroughtTo, IsFoundPage, KeepsPlacesBut};
 ghost use Rattle.overlay_pages.specs.View.{IsJoined, state_of};
 ghost use Rattle.overlay_pages.specs.declared.spots.TheConstants.{NO_PAGE};
 ghost use Rattle.overlay_memory.specs.Translated.{access_at};
-ghost use Rattle.overlay_memory.specs.Fronts.{AreFronts, AreSeen, held_of};
+ghost use Rattle.overlay_memory.specs.Epochs.{known_at};
+ghost use Rattle.overlay_memory.specs.Fronts.{AreFronts, held_of};
 ghost use Rattle.overlay_memory.specs.View.{AreTrue, cached_in};
 ghost use Rattle.space_maps.specs.Spaces.{page_in};
 ghost use Rattle.translation_cache.specs.Bare.{bare};
@@ -39,18 +40,6 @@ pub(crate) fn cached_of(found: &FoundPage) -> Cached
     }
 }
 
-/// What is found of a page: what is known since it was found, or else what the tables have.
-#[inline(always)]
-fn find_page(pages: &OverlayPages, fronts: &Fronts, space: u16, page: u64) -> Option<FoundPage>
-    requires { AreSeen pages.now.table fronts.now.seen }
-    ensures { FindsPage pages.now space page result }
-{
-    match fronts.seen(space, page) {
-        Some(found) => Some(*found),
-        None => pages.find_page(space, page),
-    }
-}
-
 /// As `translate`, of a page that isn't known to be at the front of its list.
 #[inline(always)]
 pub(crate) fn translate_anew(
@@ -60,6 +49,7 @@ pub(crate) fn translate_anew(
     space: u16,
     page: u64,
 ) -> Option<FoundPage>
+    requires low { page < NO_PAGE }
     requires held { AreTrue (state_of pages.now) cache.old }
     requires fronts { AreFronts pages.now (bare cache.old) fronts.old }
     ensures found { FindsPage pages.now space page result }
@@ -69,28 +59,35 @@ pub(crate) fn translate_anew(
     ensures held { AreTrue (state_of pages.now) cache.new }
     ensures fronts { AreFronts pages.now (bare cache.new) fronts.new }
 {
-    match find_page(pages, fronts, space, page) {
+    if let Some(known) = fronts.seen(space, page) {
+        let found = known.found;
+        bring_seen(pages, cache, fronts, &found);
+        return Some(found);
+    }
+    match pages.find_page(space, page) {
         Some(found) => {
-            bring_found(pages, cache, fronts, &found);
+            look_up(pages, cache, space, page, cached_of(&found));
+            fronts.put(space, page, found);
             Some(found)
         }
         None => {
             look_in_vain(pages, cache, space, page);
-            fronts.put(space, page, None);
+            fronts.put(space, page, FoundPage::none());
             None
         }
     }
 }
 
-/// Translates a page that was found, which then is known to be at the front of its list.
+/// Translates a page that is known since it was found, which then is known to be at the front of its list.
 #[inline(always)]
-pub(crate) fn bring_found(
+pub(crate) fn bring_seen(
     pages: &OverlayPages,
     cache: &mut Cache,
     fronts: &mut Fronts,
     found: &FoundPage,
 )
-    requires found { IsFoundPage pages.now.table found.now }
+    requires low { found.now.page < NO_PAGE }
+    requires known { (known_at fronts.old.seen found.now.space found.now.page).found ≡ found.now }
     requires held { AreTrue (state_of pages.now) cache.old }
     requires fronts { AreFronts pages.now (bare cache.old) fronts.old }
     ensures front { IsFront found.now.space found.now.page (bare cache.new) }
@@ -100,7 +97,7 @@ pub(crate) fn bring_found(
     ensures fronts { AreFronts pages.now (bare cache.new) fronts.new }
 {
     look_up(pages, cache, found.space, found.page, cached_of(found));
-    fronts.put(found.space, found.page, Some(found));
+    fronts.bring(found.space, found.page);
 }
 
 /// Counts the look-up of a page that is there, and enters what is there to be held of it where its entry isn't there.
@@ -151,9 +148,9 @@ fn translate(
     ensures fronts { AreFronts pages.now (bare cache.new) fronts.new }
 {
     match fronts.page(space, page) {
-        Some(found) => {
+        Some(known) => {
             cache.count_hit();
-            Some(*found)
+            Some(known.found)
         }
         None => translate_anew(pages, cache, fronts, space, page),
     }
@@ -253,6 +250,7 @@ pub(crate) fn bring_line(
     requires held { AreTrue (state_of pages.old) cache.old }
     ensures brought { state_of pages.new ≡ with_brought (state_of pages.old) page.space page.page (line ∷ []) }
     ensures found { IfSome result (IsBroughtTo pages.old.table pages.new.table page line) }
+    ensures places { IfSome result (λ _. KeepsPlacesBut page.space page.page pages.old pages.new) }
     ensures held { AreTrue (state_of pages.new) cache.new }
     ensures lists { bare cache.new ≡ bare cache.old }
 {

@@ -11,28 +11,28 @@ use Rattle.translation_cache.specs.Bare.{bare, bare_hits}
 
 pub read_found-requires-clause-found : goal.read_found-requires-clause-found
 read_found-requires-clause-found c =
-    let at = known_found c.args.pages.now c.args.space (c.args.address / 4096) c.in-Some.page.now (bare c.args.cache.now) c.args.fronts.now c.requires.fronts c.in-Some.ensures (omega (arith, c.ranges.address.fits)) in
-    line_found c.args.pages.now c.args.space c.args.address c.line_of.result c.in-Some.page.now c.line.result at c.line_of.ensures.line (c.line.ensures c.args.pages.now at.is)
+    let at = known_found c.args.pages.now c.args.space (c.args.address / 4096) c.in-Some.known.now (bare c.args.cache.now) c.args.fronts.now c.requires.fronts c.in-Some.ensures (omega (arith, c.ranges.address.fits)) in
+    line_found c.args.pages.now c.args.space c.args.address c.line_of.result c.in-Some.known.now.found c.line.result at c.line_of.ensures.line (c.line.ensures c.args.pages.now at.is)
 
 pub returns-in-Some-clause-access : goal.returns-in-Some-clause-access
 returns-in-Some-clause-access c =
-    let at = known_found c.args.pages.now c.args.space (c.args.address / 4096) c.in-Some.page.now (bare c.args.cache.now) c.args.fronts.now c.requires.fronts c.in-Some.ensures (omega (arith, c.ranges.address.fits)) in
+    let at = known_found c.args.pages.now c.args.space (c.args.address / 4096) c.in-Some.known.now (bare c.args.cache.now) c.args.fronts.now c.requires.fronts c.in-Some.ensures (omega (arith, c.ranges.address.fits)) in
     subst (λ s. Reads (state_of c.args.pages.now) s c.args.need.0 c.args.address (length c.args.into.now) (result_at c.args.address c.read_found.result))
-    (line_space c.args.pages.now c.args.space c.args.address c.line_of.result c.in-Some.page.now c.line.result at c.line_of.ensures.line
+    (line_space c.args.pages.now c.args.space c.args.address c.line_of.result c.in-Some.known.now.found c.line.result at c.line_of.ensures.line
     (c.line.ensures c.args.pages.now at.is))
     c.read_found.ensures.access
 
 pub returns-in-Some-clause-bytes : goal.returns-in-Some-clause-bytes
 returns-in-Some-clause-bytes c =
-    let at = known_found c.args.pages.now c.args.space (c.args.address / 4096) c.in-Some.page.now (bare c.args.cache.now) c.args.fronts.now c.requires.fronts c.in-Some.ensures (omega (arith, c.ranges.address.fits)) in
+    let at = known_found c.args.pages.now c.args.space (c.args.address / 4096) c.in-Some.known.now (bare c.args.cache.now) c.args.fronts.now c.requires.fronts c.in-Some.ensures (omega (arith, c.ranges.address.fits)) in
     subst (λ s. OnOk (result_at c.args.address c.read_found.result) (c.read_found.new.into ≡ bytes_at (memory_of (state_of c.args.pages.now) s) c.args.address (length c.args.into.now)))
-    (line_space c.args.pages.now c.args.space c.args.address c.line_of.result c.in-Some.page.now c.line.result at c.line_of.ensures.line
+    (line_space c.args.pages.now c.args.space c.args.address c.line_of.result c.in-Some.known.now.found c.line.result at c.line_of.ensures.line
     (c.line.ensures c.args.pages.now at.is))
     c.read_found.ensures.bytes
 
 pub returns-in-Some-clause-translated : goal.returns-in-Some-clause-translated
 returns-in-Some-clause-translated c =
-    known_translated c.args.pages.now c.args.space (c.args.address / 4096) c.in-Some.page.now (bare c.args.cache.now) c.args.fronts.now c.requires.fronts c.in-Some.ensures (omega (arith, c.ranges.address.fits))
+    known_translated c.args.pages.now c.args.space (c.args.address / 4096) c.in-Some.known.now (bare c.args.cache.now) c.args.fronts.now c.requires.fronts c.in-Some.ensures (omega (arith, c.ranges.address.fits))
     (bare c.count_hit.new.self) (ap bare c.count_hit.ensures ∙ bare_hits 1 c.args.cache.now)
 
 pub returns-in-Some-clause-held : goal.returns-in-Some-clause-held

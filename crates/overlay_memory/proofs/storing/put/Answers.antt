@@ -14,5 +14,6 @@ returns c =
           (c.line_at_mut.ensures.state (take at old ++ (new ++ drop (at + length bytes - at) (drop at old)))) c.copy_from_slice.ensures.after (omega arith) (omega arith)
           c.requires.found.line c.requires.some c.requires.fits c.requires.writable;
       table = refl;
+      places = c.line_at_mut.ensures.places (take at old ++ (new ++ drop (at + length bytes - at) (drop at old)));
       joined = c.line_at_mut.ensures.joined;
     }

@@ -13,10 +13,10 @@ use Rattle.translation_cache.specs.Bare.{bare}
 pub returns-then-not-contains-clause-stores : goal.returns-then-not-contains-clause-stores
 returns-then-not-contains-clause-stores c =
     let view = c.args.pages.now in
-    let at = known_found view c.args.space (c.args.address / 4096) c.in-Some.page.now (bare c.args.cache.now) c.args.fronts.now c.requires.fronts c.in-Some.ensures (omega (arith, c.ranges.address.fits)) in
+    let at = known_found view c.args.space (c.args.address / 4096) c.in-Some.known.now (bare c.args.cache.now) c.args.fronts.now c.requires.fronts c.in-Some.ensures (omega (arith, c.ranges.address.fits)) in
     refused_store view c.args.space c.args.address c.args.bytes.now (Forbidden c.args.address)
     (reads_of view c.args.space writable c.args.address (length c.args.bytes.now) (Err (Forbidden c.args.address)) c.requires.some (omega (arith, c.requires.one_line))
-    (refl, mayn_be_used view c.args.space c.args.address c.in-Some.page.now at writable (sym (c.contains.ensures tt) ∙ c.if-not-contains.true)))
+    (refl, mayn_be_used view c.args.space c.args.address c.in-Some.known.now.found at writable (sym (c.contains.ensures tt) ∙ c.if-not-contains.true)))
 
 pub returns-clause-stores : goal.returns-clause-stores
 returns-clause-stores c =

@@ -1,7 +1,7 @@
 use Rattle.std.proofs.Common.{◌/◌, ◌%◌, refl, sym, subst, ◌∙◌}
 use Rattle.std.specs.Prelude.{IfSome}
 use Rattle.ovl_io.specs.Permissions.{writable}
-use Rattle.overlay_pages.specs.Spots.{IsBroughtTo}
+use Rattle.overlay_pages.specs.Spots.{IsBroughtTo, KeepsPlacesBut}
 use Rattle.overlay_memory.specs.Fronts.{AreFronts}
 use Rattle.overlay_memory.proofs.Fronting.{brought_fronts, found_fronts, may_be_used, none_known}
 use Rattle.overlay_memory.proofs.InOne.{is_apart, line_allowed, line_full, line_room}
@@ -69,10 +69,12 @@ returns-in-Some-put_brought-clause-fronts c =
     let line = c.args.address / 64 % 64 in
     let to : IsBroughtTo c.args.pages.now.table view.table c.args.page line found =
     subst (λ o. IfSome o (IsBroughtTo c.args.pages.now.table view.table c.args.page line)) c.in-Some-put_brought.is c.put_brought.ensures.found in
+    let keeps : KeepsPlacesBut c.args.page.space c.args.page.page c.args.pages.now view =
+    subst (λ o. IfSome o (λ _. KeepsPlacesBut c.args.page.space c.args.page.page c.args.pages.now view)) c.in-Some-put_brought.is c.put_brought.ensures.places in
     subst (λ t. AreFronts view t c.put-in-Some-put_brought.new.self) (sym c.put_brought.ensures.lists)
     (subst (AreFronts view (bare c.args.cache.now)) (sym c.put-in-Some-put_brought.ensures)
     (brought_fronts c.args.pages.now view (bare c.args.cache.now) c.args.fronts.now c.args.page found line c.args.space (c.args.address / 4096) c.requires.fronts
-    c.requires.front to (to.space_is ∙ c.requires.found.space_is) (to.page_is ∙ c.requires.found.page_is)))
+    c.requires.front to keeps (to.space_is ∙ c.requires.found.space_is) (to.page_is ∙ c.requires.found.page_is)))
 
 pub returns-in-None-clause-stores : goal.returns-in-None-clause-stores
 returns-in-None-clause-stores c = (

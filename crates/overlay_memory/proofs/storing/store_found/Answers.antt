@@ -8,7 +8,7 @@ use Rattle.translation_cache.specs.Bare.{bare}
 
 pub returns-then-put_where_it_stands-clause-fronts : goal.returns-then-put_where_it_stands-clause-fronts
 returns-then-put_where_it_stands-clause-fronts c =
-    filled_fronts c.args.pages.now c.put_where_it_stands.new.pages (bare c.args.cache.now) c.args.fronts.now c.put_where_it_stands.ensures.table c.requires.fronts
+    filled_fronts c.args.pages.now c.put_where_it_stands.new.pages (bare c.args.cache.now) c.args.fronts.now c.put_where_it_stands.ensures.table c.put_where_it_stands.ensures.places c.requires.fronts
 
 pub returns-then-put_where_it_stands-clause-stores : goal.returns-then-put_where_it_stands-clause-stores
 returns-then-put_where_it_stands-clause-stores c =

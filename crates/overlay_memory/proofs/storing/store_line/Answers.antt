@@ -6,7 +6,7 @@ use Rattle.translation_cache.specs.Bare.{bare, bare_hits}
 
 pub store_found-requires-clause-found : goal.store_found-requires-clause-found
 store_found-requires-clause-found c =
-    known_found c.args.pages.now c.args.space (c.args.address / 4096) c.in-Some.page.now (bare c.args.cache.now) c.args.fronts.now c.requires.fronts c.in-Some.ensures (omega (arith, c.ranges.address.fits))
+    known_found c.args.pages.now c.args.space (c.args.address / 4096) c.in-Some.known.now (bare c.args.cache.now) c.args.fronts.now c.requires.fronts c.in-Some.ensures (omega (arith, c.ranges.address.fits))
 
 pub store_found-requires-clause-held : goal.store_found-requires-clause-held
 store_found-requires-clause-held c =
@@ -20,5 +20,5 @@ store_found-requires-clause-fronts c =
 pub returns-in-Some-clause-translated : goal.returns-in-Some-clause-translated
 returns-in-Some-clause-translated c =
     c.store_found.ensures.lists
-    ∙ known_translated c.args.pages.now c.args.space (c.args.address / 4096) c.in-Some.page.now (bare c.args.cache.now) c.args.fronts.now c.requires.fronts c.in-Some.ensures (omega (arith, c.ranges.address.fits))
+    ∙ known_translated c.args.pages.now c.args.space (c.args.address / 4096) c.in-Some.known.now (bare c.args.cache.now) c.args.fronts.now c.requires.fronts c.in-Some.ensures (omega (arith, c.ranges.address.fits))
     (bare c.count_hit.new.self) (ap bare c.count_hit.ensures ∙ bare_hits 1 c.args.cache.now)

@@ -6,16 +6,16 @@ use Rattle.translation_cache.specs.Bare.{bare, bare_hits}
 
 pub returns-in-Some-clause-found : goal.returns-in-Some-clause-found
 returns-in-Some-clause-found c =
-    known_found c.args.pages.now c.args.space c.args.page c.in-Some.found.now (bare c.args.cache.now) c.args.fronts.now c.requires.fronts c.in-Some.ensures c.requires.low
+    known_found c.args.pages.now c.args.space c.args.page c.in-Some.known.now (bare c.args.cache.now) c.args.fronts.now c.requires.fronts c.in-Some.ensures c.requires.low
 
 pub returns-in-Some-clause-front : goal.returns-in-Some-clause-front
 returns-in-Some-clause-front c =
-    known_front c.args.pages.now c.args.space c.args.page c.in-Some.found.now (bare c.args.cache.now) c.args.fronts.now c.requires.fronts c.in-Some.ensures c.requires.low
+    known_front c.args.pages.now c.args.space c.args.page c.in-Some.known.now (bare c.args.cache.now) c.args.fronts.now c.requires.fronts c.in-Some.ensures c.requires.low
     (bare c.count_hit.new.self) (ap bare c.count_hit.ensures ∙ bare_hits 1 c.args.cache.now)
 
 pub returns-in-Some-clause-translated : goal.returns-in-Some-clause-translated
 returns-in-Some-clause-translated c =
-    known_translated c.args.pages.now c.args.space c.args.page c.in-Some.found.now (bare c.args.cache.now) c.args.fronts.now c.requires.fronts c.in-Some.ensures c.requires.low
+    known_translated c.args.pages.now c.args.space c.args.page c.in-Some.known.now (bare c.args.cache.now) c.args.fronts.now c.requires.fronts c.in-Some.ensures c.requires.low
     (bare c.count_hit.new.self) (ap bare c.count_hit.ensures ∙ bare_hits 1 c.args.cache.now)
 
 pub returns-in-Some-clause-held : goal.returns-in-Some-clause-held
