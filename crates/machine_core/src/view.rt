@@ -192,16 +192,8 @@ impl<'a> GuestMemory for View<'a> {
     // goes the long way.
     #[inline(always)]
     fn load(&mut self, address: u64, into: &mut [u8]) -> Result<(), Denied> {
-        if is_aligned(address, into.len()) {
-            match self.memory.front_line(self.space, address, Perms::R) {
-                Some(line) => {
-                    let at = (address % LINE_BYTES as u64) as usize;
-                    into.copy_from_slice(&line[at..at + into.len()]);
-                    self.memory.count_front();
-                    return Ok(());
-                }
-                None => {}
-            }
+        if is_aligned(address, into.len()) && self.memory.load_front(self.space, address, into) {
+            return Ok(());
         }
         self.load_buffered(address, into)
     }
