@@ -1,4 +1,4 @@
-use Rattle.std.proofs.Common.{◌≡◌, ℕ, ◌<◌, ◌*◌, ◌/◌, ◌%◌, true, List, take, drop, length, get_or, Some, None, is_some, sym, ap, subst, ◌∙◌, refl, arith}
+use Rattle.std.proofs.Common.{◌≡◌, ℕ, ◌+◌, ◌<◌, ◌*◌, ◌/◌, ◌%◌, true, List, take, drop, length, get_or, Some, None, is_some, sym, ap, subst, ◌∙◌, refl, arith}
 use Rattle.sizes.specs.declared.TheConstants.{LINE_BYTES, PAGE_BYTES, PAGE_LINES}
 use Rattle.std.specs.Prelude.{slice_set, false}
 use Rattle.std.specs.Option.{option_map}
@@ -10,7 +10,7 @@ use Rattle.ovl_io.specs.declared.perms.Perms.{Perms}
 use Rattle.ovl_io.specs.Memory.{bytes_at}
 use Rattle.overlay_memory.specs.Access.{IsFoundIn}
 use Rattle.overlay_memory.specs.Code.{IsFrontLine}
-use Rattle.overlay_memory.specs.Epochs.{Seen, bare_page, head_at, known_at, nothing_known, nothing_seen, place_of, with_front, with_page, with_read, with_write}
+use Rattle.overlay_memory.specs.Epochs.{Seen, bare_page, head_at, known_at, known_first, nothing_known, nothing_seen, place_of, with_front, with_page, with_read, with_write}
 use Rattle.overlay_memory.specs.Fronts.{AreFronts, ArePlaces, AreSeen, IsClear, IsKnown, IsUsePlace, IsWritePlace, held_of, with_brought, with_found}
 use Rattle.overlay_memory.specs.Pieces.{IsLacking, IsPermitted}
 use Rattle.overlay_memory.proofs.Counting.{allows_is}
@@ -48,13 +48,13 @@ none_low : {P : Type 0} (known : KnownPage) → nothing_known ≡ known → know
 none_low known is low = absurd (let page : NO_PAGE ≡ known.found.page = ap (λ (k : KnownPage). k.found.page) is in omega (arith, page, low))
 
 none_at : (seen : Seen) (place : ℕ) (known : KnownPage) → seen ≡ nothing_seen → get_or seen.pages place nothing_known ≡ known → nothing_known ≡ known
-none_at seen place known is at = sym (all_alike nothing_known SEEN_PAGES place) ∙ sym (ap (λ (v : Seen). get_or v.pages place nothing_known) is) ∙ at
+none_at seen place known is at = sym (all_alike nothing_known (SEEN_PAGES + 1) place) ∙ sym (ap (λ (v : Seen). get_or v.pages place nothing_known) is) ∙ at
 
 -- so whatever memories are, they may be known so
 pub none_known : (view : MemoryView) (t : BareTranslations) (fronts : Fronts) → IsClear fronts → AreFronts view t fronts
 none_known view t fronts is = record {
   seen = record {
-    count = ap (λ (v : Seen). length v.pages) is ∙ length-replicate SEEN_PAGES nothing_known;
+    count = ap (λ (v : Seen). length v.pages) is ∙ length-replicate (SEEN_PAGES + 1) nothing_known;
     count_heads = ap (λ (v : Seen). length v.heads) is ∙ length-replicate SETS SEEN_PAGES;
     pages = λ place known at low. none_low known (none_at fronts.seen place known is at) low;
   };
@@ -112,7 +112,7 @@ filled_fronts old new t fronts table keeps are = record {
 place_same : (s p : ℕ) (found : FoundPage) → found.space ≡ s → found.page ≡ p → place_of found.space found.page ≡ place_of s p
 place_same s p found ss pp = ap (λ n. place_of n found.page) ss ∙ ap (place_of s) pp
 
-put_here : (pages : List KnownPage) (at place : ℕ) (known other : KnownPage) → length pages ≡ SEEN_PAGES → at < SEEN_PAGES → place ≡ at
+put_here : (pages : List KnownPage) (at place : ℕ) (known other : KnownPage) → length pages ≡ SEEN_PAGES + 1 → at < SEEN_PAGES → place ≡ at
     → get_or (slice_set pages at known) place nothing_known ≡ other → known ≡ other
 put_here pages at place known other count inside same is =
     sym (get_or-set_same pages at known nothing_known (omega (arith, count, inside))) ∙ ap (λ n. get_or (slice_set pages at known) n nothing_known) (sym same) ∙ is
@@ -216,18 +216,25 @@ absent_held v s p none = sym (ap (option_map cached_page) none)
 -- A page that is known to be at the front is translated.
 
 module _ (view : MemoryView) (s p : ℕ) (known : KnownPage) (t : BareTranslations) (fronts : Fronts) (are : AreFronts view t fronts)
-    (so : (known.found.space ≡ s) × (known.found.page ≡ p) × (head_at fronts.seen p ≡ place_of s p) × (known_at fronts.seen s p ≡ known)) (low : p < NO_PAGE) where
+    (so : (known.found.space ≡ s) × (known.found.page ≡ p) × (known_first fronts.seen p ≡ known)) (low : p < NO_PAGE) where
   abbrev page_low : known.found.page < NO_PAGE
   page_low = subst (λ n. n < NO_PAGE) (sym so.1) low
 
+  head_is : head_at fronts.seen p ≡ place_of s p
+  head_is = sym (are.seen.pages (head_at fronts.seen p) known so.2 page_low).place_is ∙ place_same s p known.found so.0 so.1
+
+  -- it stands at its own place
+  pub known_there : known_at fronts.seen s p ≡ known
+  known_there = ap (λ n. get_or fronts.seen.pages n nothing_known) (sym head_is) ∙ so.2
+
   pub known_is : IsKnown view (place_of s p) known
-  known_is = are.seen.pages (place_of s p) known so.3 page_low
+  known_is = are.seen.pages (place_of s p) known known_there page_low
 
   pub known_found : IsFoundPageAt view s p known.found
   known_found = record { space_is = so.0; page_is = so.1; is = known_is.is }
 
   pub known_ahead : IsFront known.found.space known.found.page t
-  known_ahead = are.heads (place_of s p) known so.3 page_low (ap (λ n. get_or fronts.seen.heads (n % SETS) SEEN_PAGES) so.1 ∙ so.2)
+  known_ahead = are.heads (place_of s p) known known_there page_low (ap (λ n. get_or fronts.seen.heads (n % SETS) SEEN_PAGES) so.1 ∙ head_is)
 
   pub known_at_front : IsFront s p t
   known_at_front = subst (λ n. IsFront s n t) so.1 (subst (λ n. IsFront n known.found.page t) so.0 known_ahead)

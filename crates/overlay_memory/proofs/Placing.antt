@@ -4,7 +4,7 @@ use Rattle.std.specs.Option.{option_map}
 use Rattle.sizes.specs.declared.TheConstants.{LINE_BYTES, PAGE_BYTES, PAGE_LINES}
 use Rattle.ovl_io.specs.Memory.{bytes_at}
 use Rattle.ovl_io.specs.Permissions.{permits, readable, writable}
-use Rattle.overlay_memory.specs.Epochs.{head_at, known_at, place_of, with_page, with_read, with_write}
+use Rattle.overlay_memory.specs.Epochs.{known_first, place_of, with_page, with_read, with_write}
 use Rattle.overlay_memory.specs.Fronts.{AreFronts, IsFrontPlace, IsFrontWritePlace, IsUsePlace, IsWritePlace, with_read_at, with_write_at}
 use Rattle.overlay_memory.specs.Pieces.{IsFilled, IsPermitted}
 use Rattle.overlay_memory.specs.View.{AreOverlaysSmall}
@@ -13,7 +13,7 @@ use Rattle.overlay_memory.specs.declared.epochs.TheConstants.{NO_PLACE}
 use Rattle.overlay_memory.specs.declared.fronts.Fronts.{Fronts}
 use Rattle.overlay_memory.proofs.Filling.{line_put}
 use Rattle.overlay_memory.proofs.Forgetting.{same_inside}
-use Rattle.overlay_memory.proofs.Fronting.{at_address, known_at_front, known_found, known_is, learned_fronts, may_be_used, page_there, read_places, write_places}
+use Rattle.overlay_memory.proofs.Fronting.{at_address, known_at_front, known_found, known_is, known_there, learned_fronts, may_be_used, page_there, read_places, write_places}
 use Rattle.overlay_memory.proofs.InOne.{done_in_line, put_in_place}
 use Rattle.overlay_memory.proofs.Pieced.{read_piece}
 use Rattle.overlay_memory.proofs.Stored.{IsDone}
@@ -32,8 +32,7 @@ use Rattle.translation_cache.specs.Bare.{BareTranslations}
 -- Where lines of pages at the front of their lists are read and written.
 
 module _ (view : MemoryView) (s address : ℕ) (known : KnownPage) (fronts : Fronts) (t : BareTranslations) (are : AreFronts view t fronts)
-    (so : (known.found.space ≡ s) × (known.found.page ≡ address / PAGE_BYTES) × (head_at fronts.seen (address / PAGE_BYTES) ≡ place_of s (address / PAGE_BYTES))
-    × (known_at fronts.seen s (address / PAGE_BYTES) ≡ known))
+    (so : (known.found.space ≡ s) × (known.found.page ≡ address / PAGE_BYTES) × (known_first fronts.seen (address / PAGE_BYTES) ≡ known))
     (low : address / PAGE_BYTES < NO_PAGE) where
   front_place : (need line at : ℕ) → line ≡ address / LINE_BYTES % PAGE_LINES → IsUsePlace view known.found need line at → IsFrontPlace view fronts s need address at
   front_place need line at line_is place = record {
@@ -84,8 +83,8 @@ module _ (view : MemoryView) (s address : ℕ) (known : KnownPage) (fronts : Fro
     pub read_fronts : permits known.found.perms.0 readable ≡ true → (u : BareTranslations) → AreFronts view u fronts
         → AreFronts view u (with_read_at s (address / PAGE_BYTES) line at fronts)
     read_fronts may u others =
-        subst (λ (k : KnownPage). AreFronts view u (record { seen = with_page s (address / PAGE_BYTES) (with_read line at k) fronts.seen; any = fronts.any })) (sym so.3)
-        (learned_fronts view u fronts s (address / PAGE_BYTES) known (with_read line at known) others so.3 page_low refl
+        subst (λ (k : KnownPage). AreFronts view u (record { seen = with_page s (address / PAGE_BYTES) (with_read line at k) fronts.seen; any = fronts.any })) (sym (known_there view s (address / PAGE_BYTES) known t fronts are so low))
+        (learned_fronts view u fronts s (address / PAGE_BYTES) known (with_read line at known) others (known_there view s (address / PAGE_BYTES) known t fronts are so low) page_low refl
         (read_places view known line at (known_is view s (address / PAGE_BYTES) known t fronts are so low).places (λ there. use_place readable may) (omega (arith, line_is))))
 
     module _ (may : permits known.found.perms.0 writable ≡ true)
@@ -98,8 +97,8 @@ module _ (view : MemoryView) (s address : ℕ) (known : KnownPage) (fronts : Fro
 
       pub write_fronts : (u : BareTranslations) → AreFronts view u fronts → AreFronts view u (with_write_at s (address / PAGE_BYTES) line at fronts)
       write_fronts u others =
-          subst (λ (k : KnownPage). AreFronts view u (record { seen = with_page s (address / PAGE_BYTES) (with_write line at k) fronts.seen; any = fronts.any })) (sym so.3)
-          (learned_fronts view u fronts s (address / PAGE_BYTES) known (with_write line at known) others so.3 page_low refl
+          subst (λ (k : KnownPage). AreFronts view u (record { seen = with_page s (address / PAGE_BYTES) (with_write line at k) fronts.seen; any = fronts.any })) (sym (known_there view s (address / PAGE_BYTES) known t fronts are so low))
+          (learned_fronts view u fronts s (address / PAGE_BYTES) known (with_write line at known) others (known_there view s (address / PAGE_BYTES) known t fronts are so low) page_low refl
           (write_places view known line at (known_is view s (address / PAGE_BYTES) known t fronts are so low).places (λ there. write_place) (omega (arith, line_is))))
 
 -- What stands there.

@@ -34,6 +34,10 @@ known_at seen space page = slice_index_or seen.pages (place_of space page) nothi
 abbrev pub head_at : Seen → ℕ → ℕ
 head_at seen page = slice_index_or seen.heads (page % SETS) SEEN_PAGES
 
+-- what is known of the page at the front of its list
+abbrev pub known_first : Seen → ℕ → KnownPage
+known_first seen page = slice_index_or seen.pages (head_at seen page) nothing_known
+
 -- it comes to the front of its list, or something is known of it
 abbrev pub with_front : ℕ → ℕ → Seen → Seen
 with_front space page seen = record { pages = seen.pages; heads = slice_set seen.heads (page % SETS) (place_of space page) }
@@ -48,9 +52,9 @@ with_read line at known = record { found = known.found; reads = slice_set known.
 abbrev pub with_write : ℕ → ℕ → KnownPage → KnownPage
 with_write line at known = record { found = known.found; reads = known.reads; writes = slice_set known.writes line at }
 
--- nothing is known
+-- nothing is known, and of no list where the page at its front stands: behind the places of pages is one where none does
 abbrev pub nothing_seen : Seen
-nothing_seen = record { pages = replicate SEEN_PAGES nothing_known; heads = replicate SETS SEEN_PAGES }
+nothing_seen = record { pages = replicate (SEEN_PAGES + 1) nothing_known; heads = replicate SETS SEEN_PAGES }
 
 -- what was put at a place is known in its epoch alone
 unfoldable pub known_in : ℕ → Known → KnownPage
@@ -63,9 +67,11 @@ known_pages epoch places = map (known_in epoch) places
 abbrev pub nothing_put : Known
 nothing_put = record { page = nothing_known; epoch = 0 }
 
--- as many places as there are, none that was put in a later epoch, and of each list one that was put in this one, or none
+-- as many places as there are, and one at which nothing stands; none that was put in a later epoch; and of each list one that was put in this one, or the last
 pub record AreKept (epoch : ℕ) (places : List Known) (heads : List ℕ) : Type 0 where
-  pub count : length places ≡ SEEN_PAGES
+  pub count : length places ≡ SEEN_PAGES + 1
   pub past : All (λ (known : Known). known.epoch ≤ epoch) places
+  pub last : slice_index_or places SEEN_PAGES nothing_put ≡ nothing_put
   pub count_heads : length heads ≡ SETS
+  pub inside : (set place : ℕ) → slice_index_or heads set SEEN_PAGES ≡ place → place ≤ SEEN_PAGES
   pub current : (set place : ℕ) → slice_index_or heads set SEEN_PAGES ≡ place → place < SEEN_PAGES → (slice_index_or places place nothing_put).epoch ≡ epoch

@@ -1,4 +1,4 @@
-use Rattle.std.specs.Prelude.{◌≡◌, ℕ, ◌/◌, ◌%◌, ◌<◌, length, slice_index_or, false, true}
+use Rattle.std.specs.Prelude.{◌≡◌, ℕ, ◌+◌, ◌/◌, ◌%◌, ◌<◌, length, slice_index_or, false, true}
 use Rattle.sizes.specs.declared.TheConstants.{LINE_BYTES, PAGE_BYTES, PAGE_LINES}
 use Rattle.ovl_io.specs.Permissions.{permits, readable, writable}
 use Rattle.overlay_memory.specs.Epochs.{Seen, bare_page, known_at, nothing_known, nothing_seen, place_of, with_front, with_page, with_read, with_write}
@@ -69,7 +69,7 @@ pub record IsKnown (view : MemoryView) (place : ℕ) (known : KnownPage) : Type 
 
 -- What has the number of no page says nothing.
 pub record AreSeen (view : MemoryView) (seen : Seen) : Type 0 where
-  pub count : length seen.pages ≡ SEEN_PAGES
+  pub count : length seen.pages ≡ SEEN_PAGES + 1
   pub count_heads : length seen.heads ≡ SETS
   pub pages : (place : ℕ) (known : KnownPage) → slice_index_or seen.pages place nothing_known ≡ known → known.found.page < NO_PAGE → IsKnown view place known
 

@@ -2,7 +2,7 @@
 
 ghost use Rattle.std.specs.Prelude.{◌≡◌, ℕ, ◌%◌, ◌<◌, replicate, slice_set, IfOk, IfSome};
 ghost use Rattle.sizes.specs.declared.TheConstants.{PAGE_LINES};
-ghost use Rattle.overlay_memory.specs.Epochs.{bare_page, head_at, known_at, nothing_put, nothing_seen, place_of, with_front, with_page, with_read, with_write};
+ghost use Rattle.overlay_memory.specs.Epochs.{bare_page, known_at, known_first, nothing_put, nothing_seen, place_of, with_front, with_page, with_read, with_write};
 ghost use Rattle.overlay_memory.specs.declared.epochs.TheConstants.{NO_PLACE, SEEN_PAGES};
 ghost use Rattle.overlay_pages.specs.declared.spots.TheConstants.{NO_PAGE};
 ghost use Rattle.translation_cache.specs.declared.TheConstants.{SETS};
@@ -18,6 +18,9 @@ pub(crate) const SEEN_PAGES: usize = 1024;
 
 /// How far apart a page of one space and that of the next one stand, so that the same few pages of a hundred spaces have places of their own.
 pub(crate) const SEEN_STEP: u64 = 67;
+
+/// One place more, at which no page ever stands: that of a list at whose front none is known.
+const ALL_PLACES: usize = SEEN_PAGES + 1;
 
 /// The number of no line of the region, which has fewer than 2^23.
 pub(crate) const NO_PLACE: u32 = u32::MAX;
@@ -121,7 +124,7 @@ impl SeenPages {
     pub(crate) fn new(alloc: Global) -> Result<SeenPages, AllocError>
         ensures { IfOk result (λ made. made ≡ nothing_seen) }
     {
-        let places = places_alike(alloc, SEEN_PAGES)?;
+        let places = places_alike(alloc, ALL_PLACES)?;
         Ok(SeenPages {
             places,
             heads: [SEEN_PAGES as u32; SETS],
@@ -133,13 +136,9 @@ impl SeenPages {
     #[inline(always)]
     pub(crate) fn front(&self, space: u16, page: u64) -> Option<&KnownPage>
         ensures { IfSome result (λ known. (known.now.found.space ≡ space) × (known.now.found.page ≡ page)
-            × (head_at self.now page ≡ place_of space page)
-            × (known_at self.now space page ≡ known.now)) }
+            × (known_first self.now page ≡ known.now)) }
     {
-        let place = place_of(space, page);
-        if self.heads[set_of(page)] != place as u32 {
-            return None;
-        }
+        let place = self.heads[set_of(page)] as usize;
         self.places[place].page.if_same(space, page)
     }
 

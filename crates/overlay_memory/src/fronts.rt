@@ -3,7 +3,7 @@
 
 ghost use Rattle.std.specs.Prelude.{◌≡◌, ◌<◌, IfOk, IfSome};
 ghost use Rattle.sizes.specs.declared.TheConstants.{PAGE_LINES};
-ghost use Rattle.overlay_memory.specs.Epochs.{head_at, known_at, place_of};
+ghost use Rattle.overlay_memory.specs.Epochs.{known_at, known_first};
 ghost use Rattle.overlay_memory.specs.Fronts.{IsClear, TellsNone, with_brought, with_found, with_read_at, with_write_at};
 ghost use Rattle.overlay_pages.specs.declared.spots.TheConstants.{NO_PAGE};
 
@@ -45,8 +45,7 @@ impl Fronts {
     #[inline(always)]
     pub(crate) fn page(&self, space: u16, page: u64) -> Option<&KnownPage>
         ensures { IfSome result (λ known. (known.now.found.space ≡ space) × (known.now.found.page ≡ page)
-            × (head_at self.now.seen page ≡ place_of space page)
-            × (known_at self.now.seen space page ≡ known.now)) }
+            × (known_first self.now.seen page ≡ known.now)) }
     {
         self.seen.front(space, page)
     }

@@ -1,4 +1,4 @@
-use Rattle.std.proofs.Common.{◌/◌, length, refl, sym, subst, ◌∙◌, arith}
+use Rattle.std.proofs.Common.{◌≡◌, ◌/◌, false, length, refl, sym, subst, ◌∙◌, arith}
 use Rattle.std.specs.Prelude.{Err}
 use Rattle.ovl_io.specs.Permissions.{writable}
 use Rattle.overlay_memory.specs.Access.{Stores}
@@ -8,7 +8,21 @@ use Rattle.overlay_memory.proofs.Fronting.{known_found, mayn_be_used, none_known
 use Rattle.overlay_memory.proofs.Pieced.{reads_of}
 use Rattle.overlay_memory.proofs.Stored.{refused_store, told_store}
 use Rattle.overlay_memory.proofs.storing.store_apart.Goals as goal
+use Rattle.overlay_pages.specs.Changes.{is_writable}
+use Rattle.overlay_pages.specs.View.{state_of}
 use Rattle.translation_cache.specs.Bare.{bare}
+
+pub store_brought-requires-clause-found : goal.store_brought-requires-clause-found
+store_brought-requires-clause-found c =
+    known_found c.args.pages.now c.args.space (c.args.address / 4096) c.in-Some.known.now (bare c.args.cache.now) c.args.fronts.now c.requires.fronts c.in-Some.ensures
+    (omega (arith, c.ranges.address.fits))
+
+pub store_brought-requires-clause-apart : goal.store_brought-requires-clause-apart
+store_brought-requires-clause-apart c =
+    let view = c.args.pages.now in
+    let page = c.in-Some.known.now.found in
+    let at = known_found view c.args.space (c.args.address / 4096) c.in-Some.known.now (bare c.args.cache.now) c.args.fronts.now c.requires.fronts c.in-Some.ensures (omega (arith, c.ranges.address.fits)) in
+    subst (λ l. is_writable (state_of view) page.space page.page l ≡ false) c.line_of.ensures.line (sym (c.is_writable.ensures view at.is) ∙ c.if-not-is_writable.true)
 
 pub returns-then-not-contains-clause-stores : goal.returns-then-not-contains-clause-stores
 returns-then-not-contains-clause-stores c =

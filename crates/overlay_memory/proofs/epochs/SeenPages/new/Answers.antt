@@ -6,4 +6,4 @@ pub invariant_of-result : goal.invariant_of-result
 invariant_of-result c = kept_first c.in_ok-places.places.items _ c.in_ok-places.ensures refl
 
 pub returns : goal.returns
-returns c = both _ _ _ _ (none_first c.in_ok-places.places.items 1024 c.in_ok-places.ensures refl) refl
+returns c = both _ _ _ _ (none_first c.in_ok-places.places.items 1025 c.in_ok-places.ensures refl) refl

@@ -6,6 +6,13 @@ use Rattle.overlay_memory.proofs.memory.OverlayMemory.front_line.Goals as goal
 use Rattle.overlay_pages.specs.declared.spots.TheConstants.{NO_PAGE}
 use Rattle.translation_cache.specs.Bare.{bare}
 
+pub line_at-requires : goal.line_at-requires
+line_at-requires c =
+    let pages = c.self.inside.pages in
+    let at = known_found pages c.args.space (c.args.address / 4096) c.in-Some.known.now (bare c.self.inside.cache) c.self.inside.fronts c.self.invariant.1 c.in-Some.ensures
+    (omega (arith, c.ranges.address.fits)) in
+    record { found = (c.line.ensures pages at.is).is }
+
 pub returns-then-contains : goal.returns-then-contains
 returns-then-contains c =
     let pages = c.self.inside.pages in
