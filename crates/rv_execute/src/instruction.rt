@@ -55,8 +55,124 @@ fn write(regs: &mut Regs, rd: u8, value: u64) -> Outcome
     Outcome::Stepped
 }
 
-/// The number of a load, with its extension. Each size has an arm of its own, since what the memory does with bytes whose number is
-/// known when it is compiled is short.
+/// The number of a byte.
+#[inline(always)]
+fn read_byte<M: GuestMemory>(mem: &mut M, address: u64) -> Result<u64, Denied>
+    requires { M.ready mem.old }
+    ensures ready { M.ready mem.new }
+    ensures answer { ReadsNumber (M.memory mem.old) address Size.Byte Extension.Zero result }
+    ensures kept { M.memory mem.new ≡ M.memory mem.old }
+    ensures made { M.loaded mem.old address (count_of Size.Byte) mem.new }
+{
+    let mut buffer = [0; 1];
+    mem.load(address, &mut buffer)?;
+    Ok(u64::from(buffer[0]))
+}
+
+/// That of two bytes.
+#[inline(always)]
+fn read_half<M: GuestMemory>(mem: &mut M, address: u64) -> Result<u64, Denied>
+    requires { M.ready mem.old }
+    ensures ready { M.ready mem.new }
+    ensures answer { ReadsNumber (M.memory mem.old) address Size.Half Extension.Zero result }
+    ensures kept { M.memory mem.new ≡ M.memory mem.old }
+    ensures made { M.loaded mem.old address (count_of Size.Half) mem.new }
+{
+    let mut buffer = [0; 2];
+    mem.load(address, &mut buffer)?;
+    Ok(u64::from(LittleEndian::read_u16(&buffer)))
+}
+
+/// That of four.
+#[inline(always)]
+fn read_word<M: GuestMemory>(mem: &mut M, address: u64) -> Result<u64, Denied>
+    requires { M.ready mem.old }
+    ensures ready { M.ready mem.new }
+    ensures answer { ReadsNumber (M.memory mem.old) address Size.Word Extension.Zero result }
+    ensures kept { M.memory mem.new ≡ M.memory mem.old }
+    ensures made { M.loaded mem.old address (count_of Size.Word) mem.new }
+{
+    let mut buffer = [0; 4];
+    mem.load(address, &mut buffer)?;
+    Ok(u64::from(LittleEndian::read_u32(&buffer)))
+}
+
+/// That of eight.
+#[inline(always)]
+fn read_double<M: GuestMemory>(mem: &mut M, address: u64) -> Result<u64, Denied>
+    requires { M.ready mem.old }
+    ensures ready { M.ready mem.new }
+    ensures answer { ReadsNumber (M.memory mem.old) address Size.Double Extension.Zero result }
+    ensures kept { M.memory mem.new ≡ M.memory mem.old }
+    ensures made { M.loaded mem.old address (count_of Size.Double) mem.new }
+{
+    let mut buffer = [0; 8];
+    mem.load(address, &mut buffer)?;
+    Ok(LittleEndian::read_u64(&buffer))
+}
+
+/// That of a signed byte. What compilers seldom write is taken apart, so that the others stay short.
+#[inline(never)]
+fn read_signed_byte<M: GuestMemory>(mem: &mut M, address: u64) -> Result<u64, Denied>
+    requires { M.ready mem.old }
+    ensures ready { M.ready mem.new }
+    ensures answer { ReadsNumber (M.memory mem.old) address Size.Byte Extension.Sign result }
+    ensures kept { M.memory mem.new ≡ M.memory mem.old }
+    ensures made { M.loaded mem.old address (count_of Size.Byte) mem.new }
+{
+    Ok(extended(Extension::Sign, Size::Byte, read_byte(mem, address)?))
+}
+
+/// That of two signed bytes.
+#[inline(never)]
+fn read_signed_half<M: GuestMemory>(mem: &mut M, address: u64) -> Result<u64, Denied>
+    requires { M.ready mem.old }
+    ensures ready { M.ready mem.new }
+    ensures answer { ReadsNumber (M.memory mem.old) address Size.Half Extension.Sign result }
+    ensures kept { M.memory mem.new ≡ M.memory mem.old }
+    ensures made { M.loaded mem.old address (count_of Size.Half) mem.new }
+{
+    Ok(extended(Extension::Sign, Size::Half, read_half(mem, address)?))
+}
+
+/// That of two bytes without a sign.
+#[inline(never)]
+fn read_unsigned_half<M: GuestMemory>(mem: &mut M, address: u64) -> Result<u64, Denied>
+    requires { M.ready mem.old }
+    ensures ready { M.ready mem.new }
+    ensures answer { ReadsNumber (M.memory mem.old) address Size.Half Extension.Zero result }
+    ensures kept { M.memory mem.new ≡ M.memory mem.old }
+    ensures made { M.loaded mem.old address (count_of Size.Half) mem.new }
+{
+    read_half(mem, address)
+}
+
+/// That of four bytes without a sign.
+#[inline(never)]
+fn read_unsigned_word<M: GuestMemory>(mem: &mut M, address: u64) -> Result<u64, Denied>
+    requires { M.ready mem.old }
+    ensures ready { M.ready mem.new }
+    ensures answer { ReadsNumber (M.memory mem.old) address Size.Word Extension.Zero result }
+    ensures kept { M.memory mem.new ≡ M.memory mem.old }
+    ensures made { M.loaded mem.old address (count_of Size.Word) mem.new }
+{
+    read_word(mem, address)
+}
+
+/// That of four bytes with a sign.
+#[inline(always)]
+fn read_signed_word<M: GuestMemory>(mem: &mut M, address: u64) -> Result<u64, Denied>
+    requires { M.ready mem.old }
+    ensures ready { M.ready mem.new }
+    ensures answer { ReadsNumber (M.memory mem.old) address Size.Word Extension.Sign result }
+    ensures kept { M.memory mem.new ≡ M.memory mem.old }
+    ensures made { M.loaded mem.old address (count_of Size.Word) mem.new }
+{
+    Ok(extended(Extension::Sign, Size::Word, read_word(mem, address)?))
+}
+
+/// The number of a load, with its extension. Each that compilers write often has an arm of its own, since what the memory does with bytes whose
+/// number is known when it is compiled is short.
 #[inline(always)]
 fn read<M: GuestMemory>(
     mem: &mut M,
@@ -70,29 +186,21 @@ fn read<M: GuestMemory>(
     ensures kept { M.memory mem.new ≡ M.memory mem.old }
     ensures made { M.loaded mem.old address (count_of size) mem.new }
 {
-    let n = match size {
-        Size::Byte => {
-            let mut buffer = [0; 1];
-            mem.load(address, &mut buffer)?;
-            u64::from(buffer[0])
-        }
-        Size::Half => {
-            let mut buffer = [0; 2];
-            mem.load(address, &mut buffer)?;
-            u64::from(LittleEndian::read_u16(&buffer))
-        }
-        Size::Word => {
-            let mut buffer = [0; 4];
-            mem.load(address, &mut buffer)?;
-            u64::from(LittleEndian::read_u32(&buffer))
-        }
-        Size::Double => {
-            let mut buffer = [0; 8];
-            mem.load(address, &mut buffer)?;
-            LittleEndian::read_u64(&buffer)
-        }
+    let n = match extension {
+        Extension::Zero => match size {
+            Size::Byte => read_byte(mem, address)?,
+            Size::Half => read_unsigned_half(mem, address)?,
+            Size::Word => read_unsigned_word(mem, address)?,
+            Size::Double => read_double(mem, address)?,
+        },
+        Extension::Sign => match size {
+            Size::Byte => read_signed_byte(mem, address)?,
+            Size::Half => read_signed_half(mem, address)?,
+            Size::Word => read_signed_word(mem, address)?,
+            Size::Double => read_double(mem, address)?,
+        },
     };
-    Ok(extended(extension, size, n))
+    Ok(n)
 }
 
 /// Loads a number into a register.
