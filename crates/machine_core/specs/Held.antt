@@ -15,14 +15,14 @@ use Rattle.rv_execute.specs.declared.action.Action.TheVariants as action
 use Rattle.rv_execute.specs.declared.outcome.Outcome.{Outcome}
 use Rattle.rv_execute.specs.declared.outcome.Outcome.TheVariants.{Stepped, Asked, Fault, Full}
 use Rattle.rv_mul.specs.Tables.{table_of}
-use Rattle.overlay_memory.specs.View.{TranslatedView}
+use Rattle.overlay_memory.specs.View.{TranslatedView, state_of}
 use Rattle.overlay_pages.specs.State.{memory_of}
 use Rattle.translation_cache.specs.CountedLaws.{IsFront}
 use Rattle.machine_core.specs.Access.{IsReadyView, PerformsLent, lists_lent, spaces_lent}
 use Rattle.machine_core.specs.Ahead.{guest_ahead}
-use Rattle.machine_core.specs.Executions.{Comes, ComesFrom}
+use Rattle.machine_core.specs.Executions.{Comes, ComesFrom, EndsWith, executions}
 use Rattle.machine_core.specs.InHand.{IsLineHeld, KeepsHand}
-use Rattle.machine_core.specs.Kept.{IsBeside, guest_lent}
+use Rattle.machine_core.specs.Kept.{IsBeside, guest_in, guest_lent}
 use Rattle.machine_core.specs.declared.process.Process.{Process}
 use Rattle.machine_core.specs.declared.hand.Hand.{Hand}
 use Rattle.machine_core.specs.declared.view.View.{View}
@@ -125,3 +125,9 @@ pub record HasReached (extension : Bool) (lines : List (List ℕ)) (process : Pr
   pub owed : new.hand.owed ≤ old.hand.owed
   pub taken : reached ≡ true → IsReached lines new.memory.now new.space new.hand process.regs.pc
   pub from : ComesFrom new.space (guest_ahead new.hand.owed (guest_lent extension new process)) old.space (guest_ahead old.hand.owed (guest_lent extension old process))
+
+-- What at most so many executions of a process leave, of which so many were steps, and the last came to this: in the memory of all spaces.
+pub record HasExecuted (extension : Bool) (stops : Addresses) (p most : ℕ) (before after : Process) (old new : TranslatedView) (n : ℕ) (o : Outcome) : Type 0 where
+  pub ends : EndsWith (executions stops p most (guest_in extension p old before)) n o (guest_in extension p new after)
+  pub saved : after.saved ≡ before.saved
+  pub beside : IsBeside p (state_of old) (state_of new)

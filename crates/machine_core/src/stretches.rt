@@ -1,7 +1,7 @@
-//! Stretches of instructions of one process. What words mean goes by whether extension M is there, which is a constant here: all of this is
-//! compiled once for each.
+//! Stretches of instructions of one process. What words mean goes by whether extension M is there, and whether there are addresses at which
+//! executions stop, are constants here: all of this is compiled once for each.
 
-ghost use Rattle.std.specs.Prelude.{◌≡◌, ◌≢◌, ℕ, ◌+◌, ◌%◌, ◌^◌, ◌<◌, ◌≤◌, [], true};
+ghost use Rattle.std.specs.Prelude.{◌≡◌, ◌≢◌, ℕ, ◌+◌, ◌%◌, ◌^◌, ◌<◌, ◌≤◌, [], None, true, false};
 ghost use Rattle.std.specs.FinSet.{contains};
 ghost use Rattle.rv_execute.specs.Execution.{Executed, execution_by, full_in};
 ghost use Rattle.rv_mul.specs.Tables.{table_of};
@@ -12,9 +12,9 @@ ghost use Rattle.breakpoints.specs.Breakpoints.{Addresses};
 ghost use Rattle.machine_core.specs.Access.{IsReadyView, spaces_lent};
 ghost use Rattle.machine_core.specs.Ahead.{guest_ahead};
 ghost use Rattle.machine_core.specs.Executions.{Comes, EndsWith, executions, steps_in, stops_in};
-ghost use Rattle.machine_core.specs.Held.{AreInLine, GoesPast, HasReached, HasRun, IsInHand, IsOn, IsReached, IsWordAt, Makes, goes_behind, goes_on, owing};
+ghost use Rattle.machine_core.specs.Held.{AreInLine, GoesPast, HasExecuted, HasReached, HasRun, IsInHand, IsOn, IsReached, IsWordAt, Makes, goes_behind, goes_on, owing};
 ghost use Rattle.machine_core.specs.InHand.{StaysInHand};
-ghost use Rattle.machine_core.specs.Kept.{IsBeside, guest_in, guest_lent};
+ghost use Rattle.machine_core.specs.Kept.{IsBeside, guest_lent};
 ghost use Rattle.machine_core.specs.Turns.{AreLikeGuests, executed, outcome_of, state_left};
 
 use crate::hand::Hand;
@@ -62,7 +62,7 @@ fn goes_behind(outcome: Outcome, action: &Action, known: Bits) -> bool
 /// As `Instructions::execute`, of a word that stands decoded. Its fetch is still to be counted. Answers also whether the next word of the
 /// line follows.
 #[inline]
-fn execute_decoded<const EXTENSION: bool>(
+fn execute_decoded<const EXTENSION: bool, const STOPS: bool>(
     regs: &mut Regs,
     view: &mut View,
     word: &Instr,
@@ -99,9 +99,10 @@ fn note(process: &mut Process, outcome: Outcome)
 }
 
 /// Executes the instruction at pc, whose word stands decoded, in the space that is lent, which is there. Its fetch is still to be counted.
-/// Answers what came of it, and whether the next word of the line follows.
+/// Answers what came of it, and whether the next word of the line follows. Each loop over instructions has one of its own, which is taken
+/// into it since nothing else calls it.
 #[inline]
-fn execute_word<const EXTENSION: bool>(
+fn execute_word<const EXTENSION: bool, const STOPS: bool>(
     process: &mut Process,
     view: &mut View,
     word: &Instr,
@@ -122,7 +123,7 @@ fn execute_word<const EXTENSION: bool>(
     ensures saved { process.new.saved ≡ process.old.saved }
     ensures beside { IsBeside view.old.space (spaces_lent view.old) (spaces_lent view.new) }
 {
-    let (outcome, on) = execute_decoded::<EXTENSION>(&mut process.regs, view, word);
+    let (outcome, on) = execute_decoded::<EXTENSION, STOPS>(&mut process.regs, view, word);
     note(process, outcome);
     (outcome, on)
 }
@@ -214,13 +215,17 @@ fn leave(hand: &mut Hand, k: u32, outcome: Outcome) -> (u32, Outcome)
 
 /// How many words of a line there are from an address on, at most so many, of which all but the first are at no stop.
 #[inline]
-fn count_from(stops: Option<&Addresses>, pc: u64, most: u32) -> u32
+fn count_from<const STOPS: bool>(stops: Option<&Addresses>, pc: u64, most: u32) -> u32
     requires inside { AreInLine pc most }
     requires some { 0 < most }
+    requires unstopped { STOPS ≡ false → stops ≡ None }
     ensures some { 0 < result }
     ensures few { result ≤ most }
     ensures past { GoesPast (stops_in stops.entry) pc result }
 {
+    if !STOPS {
+        return most;
+    }
     match stops {
         Some(addresses) => addresses.words_past(pc, most),
         None => most,
@@ -231,7 +236,7 @@ fn count_from(stops: Option<&Addresses>, pc: u64, most: u32) -> u32
 /// a step and leaves the line in hand; or one, where its word doesn't stand decoded. Answers how many were steps, and what came of the
 /// last one. The last step may leave the pc at a stop, and no other one does. Fetches are still to be counted, at most one for each.
 #[inline]
-fn run<const EXTENSION: bool>(
+fn run<const EXTENSION: bool, const STOPS: bool>(
     process: &mut Process,
     view: &mut View,
     lines: &DecodedLines<Instructions<EXTENSION>>,
@@ -244,6 +249,7 @@ fn run<const EXTENSION: bool>(
         process.old.regs.pc }
     requires some { 0 < most }
     requires few { view.old.hand.owed + most < 2 ^ 32 }
+    requires unstopped { STOPS ≡ false → stops ≡ None }
     ensures { HasRun EXTENSION (stops_in stops.entry) most lines.now
         process.old process.new view.old view.new result.0 result.1 }
 {
@@ -252,10 +258,10 @@ fn run<const EXTENSION: bool>(
     if words.is_empty() {
         return apart(process, view, lines, most, stops);
     }
-    let count = count_from(stops, pc, most.min(words.len() as u32));
+    let count = count_from::<STOPS>(stops, pc, most.min(words.len() as u32));
     let mut rest = &words[..count as usize];
     'running: while !rest.is_empty() {
-        let (outcome, on) = execute_word::<EXTENSION>(process, view, &rest[0]);
+        let (outcome, on) = execute_word::<EXTENSION, STOPS>(process, view, &rest[0]);
         if !on {
             return leave(&mut view.hand, count - rest.len() as u32, outcome);
         }
@@ -323,7 +329,7 @@ fn have_line<const EXTENSION: bool>(
 /// Executes some instructions, at most so many, as `run` does, where the line of the first one is in hand, or can be taken or brought, and else one. Answers how
 /// many were steps, and what came of the last one.
 #[inline]
-fn advance<const EXTENSION: bool>(
+fn advance<const EXTENSION: bool, const STOPS: bool>(
     process: &mut Process,
     view: &mut View,
     lines: &mut DecodedLines<Instructions<EXTENSION>>,
@@ -335,20 +341,25 @@ fn advance<const EXTENSION: bool>(
     requires hand { IsInHand lines.old view.old.memory.now view.old.space view.old.hand }
     requires some { 0 < most }
     requires few { view.old.hand.owed + most < 2 ^ 32 }
+    requires unstopped { STOPS ≡ false → stops ≡ None }
     ensures { HasRun EXTENSION (stops_in stops.entry) most lines.new
         process.old process.new view.old view.new result.0 result.1 }
 {
     if have_line(process, view, lines) {
-        return run(process, view, lines, most, stops);
+        return run::<EXTENSION, STOPS>(process, view, lines, most, stops);
     }
     apart(process, view, lines, most, stops)
 }
 
 /// Whether an address is among those at which executions stop.
 #[inline]
-fn is_stop(stops: Option<&Addresses>, address: u64) -> bool
+fn is_stop<const STOPS: bool>(stops: Option<&Addresses>, address: u64) -> bool
+    requires unstopped { STOPS ≡ false → stops ≡ None }
     ensures { result ≡ contains (stops_in stops.entry) address }
 {
+    if !STOPS {
+        return false;
+    }
     match stops {
         Some(addresses) => addresses.has(address),
         None => false,
@@ -358,7 +369,7 @@ fn is_stop(stops: Option<&Addresses>, address: u64) -> bool
 /// Executes up to so many instructions in the space that is lent, which is there, as long as each is a step and leaves the pc
 /// at no stop. Answers how many were steps, and what came of the last one. Fetches are still to be counted, at most one for each.
 #[inline]
-fn step_owing<const EXTENSION: bool>(
+fn step_owing<const EXTENSION: bool, const STOPS: bool>(
     process: &mut Process,
     view: &mut View,
     lines: &mut DecodedLines<Instructions<EXTENSION>>,
@@ -369,6 +380,7 @@ fn step_owing<const EXTENSION: bool>(
     requires ready { IsReadyView view.old }
     requires hand { IsInHand lines.old view.old.memory.now view.old.space view.old.hand }
     requires none { view.old.hand.owed ≡ 0 }
+    requires unstopped { STOPS ≡ false → stops ≡ None }
     ensures loan { view.new.memory.ghost_name ≡ view.old.memory.ghost_name }
     ensures space { view.new.space ≡ view.old.space }
     ensures ends { EndsWith (executions (stops_in stops.entry) view.old.space most
@@ -379,11 +391,11 @@ fn step_owing<const EXTENSION: bool>(
 {
     let mut left = most;
     'stepping: while left > 0 {
-        let (n, outcome) = advance(process, view, lines, left, stops);
+        let (n, outcome) = advance::<EXTENSION, STOPS>(process, view, lines, left, stops);
         match outcome {
             Outcome::Stepped => {
                 left -= n;
-                if is_stop(stops, process.regs.pc()) {
+                if is_stop::<STOPS>(stops, process.regs.pc()) {
                     return (most - left, Outcome::Stepped);
                 }
             }
@@ -391,6 +403,33 @@ fn step_owing<const EXTENSION: bool>(
         }
     }
     (most, Outcome::Stepped)
+}
+
+/// As `execute_up_to`, where it is known when it is compiled whether there are stops.
+#[inline(never)]
+fn execute_stopping<const EXTENSION: bool, const STOPS: bool>(
+    process: &mut Process,
+    memory: &mut OverlayMemory,
+    lines: &mut DecodedLines<Instructions<EXTENSION>>,
+    p: u16,
+    most: u32,
+    stops: Option<&Addresses>,
+) -> (u32, Outcome)
+    requires runs { process.old.state ≡ ProcessState.Running }
+    requires there { holds_space (state_of memory.old) p ≡ true }
+    requires none_awaits { NoneAwaits (state_of memory.old) p }
+    requires unstopped { STOPS ≡ false → stops ≡ None }
+    ensures { HasExecuted EXTENSION (stops_in stops.entry) p most
+        process.old process.new memory.old memory.new result.0 result.1 }
+{
+    let mut view = View {
+        memory,
+        space: p,
+        hand: Hand::none(),
+    };
+    let came = step_owing::<EXTENSION, STOPS>(process, &mut view, lines, most, stops);
+    view.pay();
+    came
 }
 
 /// Executes up to so many instructions in space `p`, which is there, as long as each is a step and leaves the pc at no stop.
@@ -407,17 +446,11 @@ pub(crate) fn execute_up_to<const EXTENSION: bool>(
     requires runs { process.old.state ≡ ProcessState.Running }
     requires there { holds_space (state_of memory.old) p ≡ true }
     requires none_awaits { NoneAwaits (state_of memory.old) p }
-    ensures ends { EndsWith (executions (stops_in stops.entry) p most (guest_in EXTENSION p memory.old process.old))
-        result.0 result.1 (guest_in EXTENSION p memory.new process.new) }
-    ensures saved { process.new.saved ≡ process.old.saved }
-    ensures beside { IsBeside p (state_of memory.old) (state_of memory.new) }
+    ensures { HasExecuted EXTENSION (stops_in stops.entry) p most
+        process.old process.new memory.old memory.new result.0 result.1 }
 {
-    let mut view = View {
-        memory,
-        space: p,
-        hand: Hand::none(),
-    };
-    let came = step_owing(process, &mut view, lines, most, stops);
-    view.pay();
-    came
+    match stops {
+        Some(_) => execute_stopping::<EXTENSION, true>(process, memory, lines, p, most, stops),
+        None => execute_stopping::<EXTENSION, false>(process, memory, lines, p, most, stops),
+    }
 }

@@ -7,7 +7,7 @@ use Rattle.machine_core.proofs.stretches.advance.Goals as goal
 pub run-requires : goal.run-requires
 run-requires g c = (
   omega arith,
-  (c.requires.runs, (c.have_line.ensures.ready, (c.have_line.ensures.taken c.if-have_line.true, (c.requires.some, omega (arith, c.requires.few, c.have_line.ensures.owed))))),
+  (c.requires.runs, (c.have_line.ensures.ready, (c.have_line.ensures.taken c.if-have_line.true, (c.requires.some, (omega (arith, c.requires.few, c.have_line.ensures.owed), c.requires.unstopped))))),
 )
 
 pub returns-then-have_line : goal.returns-then-have_line

@@ -33,7 +33,7 @@ pub advance-n-requires : goal.advance-n-requires
 advance-n-requires g c =
     let so = c.stepping.invariant in (
       omega arith,
-      (so.running, (so.ready, (so.hand, (omega (arith, c.stepping-test.true), omega (arith, so.few, c.stepping-test.true, c.ranges.most.fits))))),
+      (so.running, (so.ready, (so.hand, (omega (arith, c.stepping-test.true), (omega (arith, so.few, c.stepping-test.true, c.ranges.most.fits), c.requires.unstopped))))),
     )
 
 pub stepping-preserved : goal.stepping-preserved
